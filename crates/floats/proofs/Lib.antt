@@ -1,0 +1,16 @@
+pub mod Away
+pub mod EveryByte
+pub mod Tests
+pub mod Fractions
+pub mod Units
+pub mod NearestWhole
+pub mod CutToByte
+pub mod Magnitudes
+pub mod HalfAway
+pub mod SignedCasts
+pub mod SumTests
+pub mod Squares
+pub mod NearOne
+pub mod NearZero
+pub mod ClampToOne
+pub mod RoundedDown

@@ -1,0 +1,5 @@
+pub mod Answers
+pub mod Tabulated
+pub mod Places
+pub mod Filling
+pub mod Contracts

@@ -1,0 +1,5 @@
+pub mod Answer
+pub mod Size
+pub mod Tabulate
+pub mod Pixel
+pub mod Contract

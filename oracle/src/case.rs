@@ -1,0 +1,130 @@
+//! A single call with everything that it is lent, and what is expected of it.
+
+use std::fmt;
+
+/// A parameter. Floats are kept by their bits, so that cases compare and print exactly.
+#[derive(Clone, Debug, PartialEq, Eq)]
+pub enum Param {
+    /// The number of an enum's case.
+    Choice(u32),
+    Float(u32),
+    /// Floats whose count is written before them.
+    List(Vec<u32>),
+    /// Floats up to the end of the parameters.
+    Rest(Vec<u32>),
+}
+
+#[derive(Clone, Debug, PartialEq, Eq)]
+pub struct Case {
+    pub width: u32,
+    pub height: u32,
+    pub params: Vec<Param>,
+    pub sheets: Vec<Vec<u8>>,
+}
+
+/// The answer of a call.
+#[repr(C)]
+#[derive(Clone, Copy, Debug, PartialEq, Eq)]
+pub struct Answer {
+    pub number: u8,
+    pub step: u8,
+}
+
+impl Answer {
+    /// Stands for a call that wrote outside what it may write.
+    pub const TOUCHED: Answer = Answer {
+        number: 255,
+        step: 255,
+    };
+    /// Stands for a call that ended the program which made it.
+    pub const ENDED: Answer = Answer {
+        number: 254,
+        step: 255,
+    };
+}
+
+impl fmt::Display for Answer {
+    fn fmt(&self, out: &mut fmt::Formatter) -> fmt::Result {
+        match *self {
+            Answer::TOUCHED => write!(out, "a write outside the lent bytes"),
+            Answer::ENDED => write!(out, "the end of its program"),
+            Answer { number, step } => write!(out, "answer {number} at step {step}"),
+        }
+    }
+}
+
+/// The answer and every lent sheet afterwards.
+#[derive(Clone, Debug, PartialEq, Eq)]
+pub struct Outcome {
+    pub answer: Answer,
+    pub sheets: Vec<Vec<u8>>,
+}
+
+impl Param {
+    pub fn float(x: f32) -> Param {
+        Param::Float(x.to_bits())
+    }
+
+    pub fn floats(xs: &[f32]) -> Vec<u32> {
+        xs.iter().map(|x| x.to_bits()).collect()
+    }
+
+    /// The floats of this parameter.
+    pub fn bits_mut(&mut self) -> &mut [u32] {
+        match self {
+            Param::Choice(_) => &mut [],
+            Param::Float(bits) => std::slice::from_mut(bits),
+            Param::List(bits) | Param::Rest(bits) => bits,
+        }
+    }
+
+    fn write(&self, words: &mut Vec<u32>) {
+        match self {
+            Param::Choice(n) | Param::Float(n) => words.push(*n),
+            Param::List(bits) => {
+                words.push(bits.len() as u32);
+                words.extend(bits);
+            }
+            Param::Rest(bits) => words.extend(bits),
+        }
+    }
+}
+
+impl Case {
+    pub fn choice(&self, i: usize) -> u32 {
+        match self.params[i] {
+            Param::Choice(n) => n,
+            _ => unreachable!("parameter {i} is no choice"),
+        }
+    }
+
+    pub fn float(&self, i: usize) -> f32 {
+        match self.params[i] {
+            Param::Float(bits) => f32::from_bits(bits),
+            _ => unreachable!("parameter {i} is no float"),
+        }
+    }
+
+    pub fn floats(&self, i: usize) -> Vec<f32> {
+        match &self.params[i] {
+            Param::List(bits) | Param::Rest(bits) => {
+                bits.iter().map(|b| f32::from_bits(*b)).collect()
+            }
+            _ => unreachable!("parameter {i} is no list"),
+        }
+    }
+
+    /// The bytes that each sheet must have; large enough a type for any two u32.
+    pub fn size(&self) -> u128 {
+        4 * self.width as u128 * self.height as u128
+    }
+
+    /// The parameters as the stored lists have them.
+    pub fn words(&self) -> Vec<u32> {
+        let mut words = Vec::new();
+        for param in &self.params {
+            param.write(&mut words);
+        }
+        words
+    }
+}

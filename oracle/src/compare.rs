@@ -1,0 +1,193 @@
+//! The library against the Rust and the table, at scale; a difference is shown as small as it gets.
+
+use crate::case::{Case, Param};
+use crate::leaves::{self, Leaf};
+use crate::lend::Lent;
+use crate::nasty::Limits;
+use crate::primitives::{ALL, Primitive};
+use crate::rng::Rng;
+use crate::shrink;
+
+const SEED: u64 = 0x636f_6d70;
+
+/// What `oracle compare` was asked for.
+pub struct Wanted {
+    /// One primitive or leaf, or all.
+    pub name: Option<String>,
+    pub cases: u32,
+    /// A function that the archive lacks is an error, as it is where one name is asked for.
+    pub all: bool,
+}
+
+/// Runs what is wanted; the error is what to print before leaving with status 1.
+pub fn run(wanted: &Wanted) -> Result<(), String> {
+    let is_wanted = |name: &str| wanted.name.as_deref().is_none_or(|only| only == name);
+    let mut found = false;
+    for leaf in leaves::ALL.iter().filter(|leaf| is_wanted(leaf.name)) {
+        found = true;
+        compare_leaf(leaf, wanted)?;
+    }
+    for primitive in ALL.iter().filter(|primitive| is_wanted(primitive.name)) {
+        found = true;
+        let known = (primitive.known)();
+        compare_primitive(primitive, wanted, false, &mut |rng, i| {
+            let side = match i % 500 {
+                499 => primitive.large,
+                _ => [4, 9, 24][i as usize % 3],
+            };
+            let limits = Limits {
+                side,
+                any_nan: true,
+            };
+            let drawn = || (primitive.draw)(rng, limits);
+            known.get(i as usize).cloned().unwrap_or_else(drawn)
+        })?;
+        compare_primitive(primitive, wanted, true, &mut |rng, i| {
+            let limits = Limits {
+                side: [2, 5, 12][i as usize % 3],
+                any_nan: true,
+            };
+            primitive.draw_spoiled(rng, limits)
+        })?;
+    }
+    match &wanted.name {
+        Some(name) if !found => Err(format!("no primitive or leaf is called {name}")),
+        _ => Ok(()),
+    }
+}
+
+fn missing(name: &str, wanted: &Wanted) -> Result<(), String> {
+    let line = format!("{name}: not in the library, or not all of it");
+    if wanted.all || wanted.name.is_some() {
+        return Err(line);
+    }
+    println!("{line}");
+    Ok(())
+}
+
+fn compare_leaf(leaf: &Leaf, wanted: &Wanted) -> Result<(), String> {
+    if !leaf.linked {
+        return missing(leaf.name, wanted);
+    }
+    let mut rng = Rng::new(SEED);
+    for (title, refused) in [
+        (leaf.name.to_string(), false),
+        (format!("{} refusals", leaf.name), true),
+    ] {
+        if refused && !leaf.refuses {
+            continue;
+        }
+        for i in 0..wanted.cases {
+            (leaf.check)(&mut rng, refused)
+                .map_err(|shown| format!("{title}: {} cases, 1 differences\n{shown}", i + 1))?;
+        }
+        println!("{title}: {} cases, 0 differences", wanted.cases);
+    }
+    Ok(())
+}
+
+fn compare_primitive(
+    primitive: &Primitive,
+    wanted: &Wanted,
+    refusals: bool,
+    draw: &mut dyn FnMut(&mut Rng, u32) -> Case,
+) -> Result<(), String> {
+    let title = format!(
+        "{}{}",
+        primitive.name,
+        if refusals { " refusals" } else { "" }
+    );
+    let mut rng = Rng::new(SEED + 2 * primitive.code as u64 + refusals as u64);
+    let (mut done, mut absent, mut answers) = (0, 0, [0; 6]);
+    for i in 0..wanted.cases {
+        let case = draw(&mut rng, i);
+        match check(primitive, &case) {
+            None => absent += 1,
+            Some(Ok(number)) => {
+                done += 1;
+                answers[number as usize] += 1;
+            }
+            Some(Err(_)) => return Err(shown(primitive, &title, done + 1, case)),
+        }
+    }
+    if absent > 0 && !refusals {
+        missing(&title, wanted)?;
+    }
+    if done > 0 {
+        println!("{title}: {done} cases, 0 differences (answers 0 to 5: {answers:?})");
+    }
+    Ok(())
+}
+
+/// Whether the library does what is expected: the answer's number, or what differs. None where the
+/// function is not linked.
+pub fn check(primitive: &Primitive, case: &Case) -> Option<Result<u8, String>> {
+    let mut lent: Vec<Lent<u8>> = case
+        .sheets
+        .iter()
+        .enumerate()
+        .map(|(i, sheet)| Lent::new(sheet, 0xa5, (sheet.len() / 4 + i) % 4))
+        .collect();
+    let mut slices: Vec<&mut [u8]> = lent.iter_mut().map(Lent::now_mut).collect();
+    let answer = (primitive.ours)(case, &mut slices)?;
+    let expected = primitive.expected(case);
+    if answer != expected.answer {
+        let expected = expected.answer;
+        return Some(Err(format!(
+            "expected {expected}, the library gave {answer}"
+        )));
+    }
+    for (i, (lent, sheet)) in lent.iter().zip(&expected.sheets).enumerate() {
+        if let Some(at) = lent
+            .now()
+            .iter()
+            .zip(sheet)
+            .position(|(ours, rust)| ours != rust)
+        {
+            let (rust, ours) = (sheet[at], lent.now()[at]);
+            return Some(Err(format!(
+                "sheet {i} byte {at}: expected {rust}, the library left {ours}"
+            )));
+        }
+        if !lent.kept() {
+            return Some(Err(format!("the library wrote outside sheet {i}")));
+        }
+    }
+    Some(Ok(answer.number))
+}
+
+fn shown(primitive: &Primitive, title: &str, done: u32, case: Case) -> String {
+    let differs = |case: &Case| matches!(check(primitive, case), Some(Err(_)));
+    let small = shrink::shrink(case, &differs);
+    let what = check(primitive, &small).unwrap().unwrap_err();
+    format!(
+        "{title}: {done} cases, 1 differences\n{what}\n{}",
+        describe(&small)
+    )
+}
+
+/// A case for people: numbers with their bits, sheets in hex, a pixel to a word.
+fn describe(case: &Case) -> String {
+    let number = |bits: &u32| format!("{:?} ({bits:#010x})", f32::from_bits(*bits));
+    let mut text = format!("  width {} height {}\n", case.width, case.height);
+    for (i, param) in case.params.iter().enumerate() {
+        let param = match param {
+            Param::Choice(n) => format!("choice {n}"),
+            Param::Float(bits) => number(bits),
+            Param::List(all) | Param::Rest(all) => {
+                format!(
+                    "{} numbers: {}",
+                    all.len(),
+                    all.iter().map(number).collect::<Vec<_>>().join(", ")
+                )
+            }
+        };
+        text += &format!("  parameter {i}: {param}\n");
+    }
+    for (i, sheet) in case.sheets.iter().enumerate() {
+        let pixel = |p: &[u8]| p.iter().map(|b| format!("{b:02x}")).collect::<String>();
+        let pixels: Vec<String> = sheet.chunks(4).take(256).map(pixel).collect();
+        text += &format!("  sheet {i}, {} bytes: {}\n", sheet.len(), pixels.join(" "));
+    }
+    text
+}

@@ -1,0 +1,161 @@
+//! The library's leaves over whole slices. Each is refused 2 where its two lengths differ.
+
+use crate::case::Answer;
+use crate::lend::Lent;
+use crate::nasty::steps;
+use crate::ours;
+use crate::rng::Rng;
+
+pub struct Leaf {
+    pub name: &'static str,
+    pub linked: bool,
+    /// Whether there are two lengths to differ.
+    pub refuses: bool,
+    /// One case, with lengths that differ or not; the error shows the input.
+    pub check: fn(&mut Rng, bool) -> Result<(), String>,
+}
+
+pub const ALL: [Leaf; 4] = [
+    Leaf {
+        name: "to_bytes",
+        linked: ours::nup_to_bytes.is_some(),
+        refuses: true,
+        check: to_bytes,
+    },
+    Leaf {
+        name: "round_to_i32s",
+        linked: ours::nup_round_to_i32s.is_some(),
+        refuses: true,
+        check: round_to_i32s,
+    },
+    Leaf {
+        name: "copy",
+        linked: ours::nup_copy.is_some(),
+        refuses: true,
+        check: copy,
+    },
+    Leaf {
+        name: "clear",
+        linked: ours::nup_clear.is_some(),
+        refuses: false,
+        check: clear,
+    },
+];
+
+const DONE: Answer = Answer { number: 0, step: 0 };
+const REFUSED: Answer = Answer { number: 2, step: 0 };
+
+fn floats(rng: &mut Rng, count: usize) -> Vec<f32> {
+    let draw = |rng: &mut Rng| match rng.below(4) {
+        0 => f32::from_bits(rng.bits()),
+        1 => 500.0 * rng.unit() - 100.0,
+        _ => steps(
+            (rng.bits() >> (8 + rng.below(24))) as f32 / 2.0,
+            rng.between(-1, 1),
+        ),
+    };
+    (0..count).map(|_| draw(rng)).collect()
+}
+
+/// The length of what is written: the same, or another where the call must be refused.
+fn lengths(rng: &mut Rng, refused: bool) -> (usize, usize) {
+    let n: usize = rng.pick(&[0, 1, 2, 3, 7, 8, 31, 64, 65, 200]);
+    let other = rng.pick(&[n + 1, n.saturating_sub(1), 0, 2 * n, n + 64]);
+    match refused {
+        false => (n, n),
+        true if other == n => (n, n + 1),
+        true => (n, other),
+    }
+}
+
+/// Compares what one call did with what `leaf` makes of each element.
+fn check<A: Copy + std::fmt::Debug, B: Copy + PartialEq + std::fmt::Debug>(
+    xs: &[A],
+    out: Lent<B>,
+    leaf: fn(A) -> B,
+    call: impl Fn(&[A], &mut [B]) -> Answer,
+) -> Result<(), String> {
+    let mut out = out;
+    let before = out.now().to_vec();
+    let answer = call(xs, out.now_mut());
+    let same = xs.len() == before.len();
+    let expected = if same {
+        xs.iter().map(|x| leaf(*x)).collect()
+    } else {
+        before
+    };
+    let right = answer == if same { DONE } else { REFUSED };
+    if right && out.now() == expected && out.kept() {
+        return Ok(());
+    }
+    let at = out
+        .now()
+        .iter()
+        .zip(&expected)
+        .position(|(ours, rust)| ours != rust);
+    Err(match at {
+        Some(at) if right && same => {
+            format!(
+                "{:?}: expected {:?}, the library gave {:?}",
+                xs[at],
+                expected[at],
+                out.now()[at]
+            )
+        }
+        _ => format!(
+            "{} read, {} lent to write: {answer:?}, first byte changed: {at:?}, outside kept: {}",
+            xs.len(),
+            expected.len(),
+            out.kept()
+        ),
+    })
+}
+
+fn to_bytes(rng: &mut Rng, refused: bool) -> Result<(), String> {
+    let (n, m) = lengths(rng, refused);
+    let call = ours::nup_to_bytes.expect("linked");
+    let out = Lent::new(&vec![0x5a; m], 0xa5, rng.below(4) as usize);
+    check(
+        &floats(rng, n),
+        out,
+        |x| x as u8,
+        |xs, out| unsafe { call(xs.as_ptr(), xs.len(), out.as_mut_ptr(), out.len()) },
+    )
+}
+
+fn round_to_i32s(rng: &mut Rng, refused: bool) -> Result<(), String> {
+    let (n, m) = lengths(rng, refused);
+    let call = ours::nup_round_to_i32s.expect("linked");
+    let out = Lent::new(&vec![0x5a5a; m], -1, rng.below(4) as usize);
+    check(
+        &floats(rng, n),
+        out,
+        |x| x.round() as i32,
+        |xs, out| unsafe { call(xs.as_ptr(), xs.len(), out.as_mut_ptr(), out.len()) },
+    )
+}
+
+fn copy(rng: &mut Rng, refused: bool) -> Result<(), String> {
+    let (n, m) = lengths(rng, refused);
+    let call = ours::nup_copy.expect("linked");
+    let bytes: Vec<u8> = (0..n).map(|_| rng.byte()).collect();
+    let out = Lent::new(&vec![0x5a; m], 0xa5, rng.below(4) as usize);
+    check(
+        &bytes,
+        out,
+        |b| b,
+        |bytes, out| unsafe { call(bytes.as_ptr(), bytes.len(), out.as_mut_ptr(), out.len()) },
+    )
+}
+
+fn clear(rng: &mut Rng, _: bool) -> Result<(), String> {
+    let (n, _) = lengths(rng, false);
+    let call = ours::nup_clear.expect("linked");
+    let out = Lent::new(&vec![0x5a; n], 0xa5, rng.below(4) as usize);
+    check(
+        &vec![(); n],
+        out,
+        |_| 0,
+        |_, out| unsafe { call(out.as_mut_ptr(), out.len()) },
+    )
+}

@@ -1,0 +1,284 @@
+//! The stored list of recipes, which a Rattle program replays without Rust.
+//!
+//! Little-endian u32 words: width, height, kind (0 straight, 1 premultiplied), P, the P numbers of the
+//! pool, count, S, and S steps of nine words: code, output, first input, second input (0 where there is
+//! one input) and five parameters; then five times a length with that many bytes (slots 0 to 3 and
+//! scratch); then the answer's number and step, 1 where the result reaches slot 0 and else 0, and the five
+//! sheets' bytes after the run. Bytes are padded with zeros to a whole number of words. The end of the file
+//! ends the list.
+
+use super::{Kind, Recipe, STEPS, Step, Work, draw, draw_spoiled, reaches, run};
+use crate::rng::Rng;
+
+const SEED: u64 = 0x7265_6369;
+const ACCEPTED: usize = 150;
+/// Every fault, and those of a step.
+const FAULTS: [u8; 8] = [1, 2, 3, 4, 5, 6, 7, 8];
+const OF_STEPS: [u8; 5] = [7, 8, 3, 4, 5];
+
+/// What is known, then accepted recipes, then recipes with each fault alone and with each other one.
+pub fn list() -> Vec<u8> {
+    let mut rng = Rng::new(SEED);
+    let mut list = Vec::new();
+    for recipe in known() {
+        write(&mut list, &recipe);
+    }
+    for _ in 0..ACCEPTED {
+        write(&mut list, &draw(&mut rng));
+    }
+    for faults in [&FAULTS[..], &OF_STEPS, &FAULTS, &OF_STEPS, &OF_STEPS] {
+        for first in faults {
+            for second in [&0].into_iter().chain(faults) {
+                write(&mut list, &draw_spoiled(&mut rng, *first, *second));
+            }
+        }
+    }
+    list
+}
+
+fn step(work: Work, inputs: &[u8], output: u8) -> Step {
+    Step {
+        work,
+        inputs: inputs.into(),
+        output,
+    }
+}
+
+fn known() -> Vec<Recipe> {
+    let base = |count: u32, steps: Vec<Step>| Recipe {
+        width: 5,
+        height: 1,
+        kind: Kind::Premultiplied,
+        pool: vec![],
+        count,
+        steps,
+        sheets: [3, 5, 7, 11, 13]
+            .map(|n| (0..20).map(|i| 7 + i * n).collect())
+            .into(),
+    };
+    let dilate = Work::Morphology(0, 1.0, 0.0);
+    let erode = Work::Morphology(1, 0.0, 1.0);
+    let add = Work::Arithmetic([0.0, 0.5, 0.5, 0.0]);
+    // The source, slot 1, slot 2, slot 1 and so on.
+    let to_and_fro: Vec<Step> = (0..STEPS)
+        .map(|i| match i {
+            0 => step(dilate, &[0], 1),
+            _ if i % 2 == 1 => step(erode, &[1], 2),
+            _ => step(dilate, &[2], 1),
+        })
+        .collect();
+    let mut recipes = vec![
+        base(2, vec![step(dilate, &[0], 1), step(dilate, &[1], 2)]),
+        // A diamond that ends where it began, and a slot read twice.
+        base(
+            4,
+            vec![
+                step(dilate, &[0], 1),
+                step(erode, &[0], 2),
+                step(add, &[1, 2], 3),
+                step(add, &[3, 3], 1),
+            ],
+        ),
+        // An input that only a later step writes.
+        base(2, vec![step(dilate, &[2], 1), step(dilate, &[0], 2)]),
+        // What stood in a slot before is no input, though it is a sheet.
+        base(1, vec![step(add, &[0, 3], 1)]),
+        // A 6 before what is wrong with a step.
+        base(0, vec![]),
+        base(17, vec![step(dilate, &[9], 9)]),
+    ];
+    recipes.extend([15, 16, 17, 18, 255].map(|count| base(count, to_and_fro.clone())));
+    recipes.extend(in_one_step().map(|work| base(1, vec![step(work, &[0], 1)])));
+    recipes
+}
+
+/// Work that is wrong on a premultiplied source, first by its kind, and by more.
+fn in_one_step() -> [Work; 3] {
+    [
+        Work::Matrix(0, 20),
+        Work::Saturate(f32::NAN),
+        Work::HueRotate(2.0, 0.0),
+    ]
+}
+
+fn write(list: &mut Vec<u8>, recipe: &Recipe) {
+    let outcome = run(recipe);
+    let kind = match recipe.kind {
+        Kind::Straight => 0,
+        Kind::Premultiplied => 1,
+    };
+    let pool = recipe.pool.iter().map(|x| x.to_bits());
+    write_words(list, [recipe.width, recipe.height, kind, pool.len() as u32]);
+    write_words(list, pool);
+    write_words(list, [recipe.count, recipe.steps.len() as u32]);
+    for step in &recipe.steps {
+        write_words(list, words(step));
+    }
+    for sheet in &recipe.sheets {
+        write_words(list, [sheet.len() as u32]);
+        write_bytes(list, sheet);
+    }
+    let answer = outcome.answer;
+    write_words(
+        list,
+        [
+            answer.number as u32,
+            answer.step as u32,
+            reaches(recipe) as u32,
+        ],
+    );
+    for sheet in &outcome.sheets {
+        write_bytes(list, sheet);
+    }
+}
+
+fn words(step: &Step) -> [u32; 9] {
+    let bits = f32::to_bits;
+    let (code, parameters) = match step.work {
+        Work::Morphology(op, rx, ry) => (1, [op, bits(rx), bits(ry), 0, 0]),
+        Work::Matrix(start, length) => (2, [0, start, length, 0, 0]),
+        Work::Saturate(v) => (2, [1, bits(v), 0, 0, 0]),
+        Work::HueRotate(cosine, sine) => (2, [2, bits(cosine), bits(sine), 0, 0]),
+        Work::LuminanceToAlpha => (2, [3, 0, 0, 0, 0]),
+        Work::Arithmetic([k1, k2, k3, k4]) => (3, [bits(k1), bits(k2), bits(k3), bits(k4), 0]),
+    };
+    let first = step.inputs[0] as u32;
+    let second = step.inputs.get(1).map_or(0, |slot| *slot as u32);
+    let mut words = [code, step.output as u32, first, second, 0, 0, 0, 0, 0];
+    words[4..].copy_from_slice(&parameters);
+    words
+}
+
+fn write_words(list: &mut Vec<u8>, words: impl IntoIterator<Item = u32>) {
+    list.extend(words.into_iter().flat_map(u32::to_le_bytes));
+}
+
+fn write_bytes(list: &mut Vec<u8>, bytes: &[u8]) {
+    list.extend(bytes);
+    list.resize(list.len().next_multiple_of(4), 0);
+}
+
+#[cfg(test)]
+mod tests {
+    use super::*;
+    use crate::recipe::{SCRATCH, answer};
+    use std::collections::BTreeSet;
+
+    const MOST_BYTES: usize = 250_000;
+
+    /// Reads the list back by its description alone: the answers with their steps, and which reach.
+    fn answers(list: &[u8]) -> Vec<(u32, u32, u32)> {
+        let mut at = 0;
+        let word = |at: &mut usize| {
+            *at += 4;
+            u32::from_le_bytes(list[*at - 4..*at].try_into().unwrap())
+        };
+        let mut answers = Vec::new();
+        while at < list.len() {
+            at += 12;
+            at += 4 * word(&mut at) as usize;
+            let count = word(&mut at) as usize;
+            let steps = word(&mut at) as usize;
+            assert!(steps <= STEPS && (count > STEPS || count <= steps));
+            at += 36 * steps;
+            let mut spans = Vec::new();
+            for _ in 0..5 {
+                let length = word(&mut at) as usize;
+                spans.push(at..at + length);
+                at += length.next_multiple_of(4);
+            }
+            let (number, step, reaches) = (word(&mut at), word(&mut at), word(&mut at));
+            for (slot, span) in spans.into_iter().enumerate() {
+                let after = &list[at..at + span.len()];
+                at += span.len().next_multiple_of(4);
+                if number != 0 || slot == 0 {
+                    assert_eq!(list[span], *after);
+                } else if slot == SCRATCH {
+                    assert!(after.iter().all(|b| *b == 0));
+                }
+            }
+            answers.push((number, step, reaches));
+        }
+        assert_eq!(at, list.len());
+        answers
+    }
+
+    #[test]
+    fn the_list_reads_back_and_holds_every_answer_at_many_steps() {
+        let list = list();
+        let answers = answers(&list);
+        println!("{} bytes, {} recipes", list.len(), answers.len());
+        assert!(list.len() <= MOST_BYTES);
+        assert!(answers.len() > 380);
+        for number in 0..9 {
+            let these = answers.iter().filter(|answer| answer.0 == number);
+            let count = these.clone().count();
+            let steps: BTreeSet<u32> = these.map(|answer| answer.1).collect();
+            println!("{number}: {count} recipes, steps {steps:?}");
+            assert!(count >= 12, "{number}");
+            let of_steps = [3, 4, 5, 7, 8].contains(&number);
+            assert!(if of_steps {
+                steps.len() >= 5
+            } else {
+                steps.len() == 1
+            });
+        }
+        // Every step so far reads something, so that what is accepted reaches the source.
+        assert!(
+            answers
+                .iter()
+                .all(|answer| (answer.0 == 0) == (answer.2 == 1))
+        );
+        assert_eq!(list, super::list());
+    }
+
+    /// The first test that fails answers: 1, 2, 6, then step by step 7, 8, 3, 4, 5.
+    #[test]
+    fn the_order_of_the_tests() {
+        let all_wrong = step(Work::Matrix(0, 19), &[2], 2);
+        let mut recipe = Recipe {
+            width: 0,
+            height: 1,
+            kind: Kind::Premultiplied,
+            pool: vec![f32::NAN; 20],
+            count: 17,
+            steps: vec![step(Work::Saturate(1.0), &[0], 1), all_wrong],
+            sheets: vec![vec![0; 4], vec![1; 4], vec![2; 4], vec![3; 4], vec![]],
+        };
+        let see = |recipe: &Recipe, number: u8, index: u8| {
+            let seen = answer(recipe);
+            assert_eq!((seen.number, seen.step), (number, index));
+        };
+        see(&recipe, 1, 0);
+        recipe.width = 1;
+        see(&recipe, 2, 0);
+        recipe.sheets[SCRATCH] = vec![4; 4];
+        see(&recipe, 6, 0);
+        recipe.count = 0;
+        see(&recipe, 6, 0);
+        recipe.count = 2;
+        see(&recipe, 8, 0);
+        recipe.kind = Kind::Straight;
+        see(&recipe, 7, 1);
+        recipe.steps[1] = step(Work::Morphology(0, f32::NAN, -1.0), &[3], 2);
+        see(&recipe, 7, 1);
+        recipe.steps[1].inputs = vec![1];
+        see(&recipe, 8, 1);
+        recipe.steps[1] = step(Work::Matrix(0, 19), &[1], 2);
+        see(&recipe, 3, 1);
+        recipe.steps[1].work = Work::Matrix(1, 20);
+        see(&recipe, 3, 1);
+        recipe.steps[1].work = Work::Matrix(0, 20);
+        see(&recipe, 4, 1);
+        recipe.pool = vec![70000.0; 20];
+        see(&recipe, 5, 1);
+        recipe.pool = vec![65536.0; 20];
+        see(&recipe, 0, 0);
+        recipe.count = 3;
+        recipe.steps.push(step(Work::LuminanceToAlpha, &[0], 0));
+        see(&recipe, 7, 2);
+        // An earlier step's fault of a later number comes first.
+        recipe.steps[0].work = Work::HueRotate(1.0, 1.0);
+        see(&recipe, 5, 0);
+    }
+}
