@@ -1,0 +1,3 @@
+mod Bytes
+mod Twenty
+pub mod Reading

@@ -1,0 +1,4 @@
+pub mod Rows
+pub mod Coefficients
+pub mod ColorMatrix
+pub mod Reads

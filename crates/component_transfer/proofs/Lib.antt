@@ -1,0 +1,4 @@
+mod Passed
+mod Cases
+mod Bytes
+pub mod Reading

@@ -1,0 +1,80 @@
+-- What functions that pass their tests tell: each passes by itself, and a table's entries lie in the pool and are at most 256.
+use Prim.Native.Nat.{ℕ, zero, suc, _≤_, _<_}
+use mathlib.Core.Path.{_≡_, refl, sym, ap, _∙_}
+use mathlib.Core.Bool.{Bool, true, false, cond}
+use mathlib.Core.List.{List}
+use native.Mathlib.Omega.{arith}
+use borrow.Author.Tests.{eqb-false, leb-true, le-leb, lt-leb}
+use lib.ListN.{length}
+use lib.Dec.{leb, eqb}
+use lib.Ieee.{Float}
+use Rattle.sheet.specs.declared.Refusal.{Refusal}
+use Rattle.sheet.specs.declared.Answer.{Answer}
+use Rattle.sheet.specs.declared.Answer.the-variants.{Done, Refused}
+use Rattle.sheet.specs.Answer.{refusalNumber, number, onDone}
+use Rattle.sheet.proofs.Answers.{cond-done}
+use Rattle.pool.specs.declared.Numbers.{Numbers}
+use Rattle.pool.specs.Pool.{isIn, numbersOf, rangeAnswer}
+use Rattle.pool.proofs.Ranges.{range-in, length-numbers}
+use Rattle.component_transfer.specs.declared.TransferFunction.{TransferFunction}
+use Rattle.component_transfer.specs.ComponentTransfer.{entriesAnswer, functionAnswer, together, functionsAnswer, ofChannel}
+
+never : {A : Type 0} (r : Refusal) (i : ℕ) → Refused r i ≡ Done → A
+never r i e = let z : _≡_ {A = ℕ} 0 1 = cc in absurd (eqb-false 0 1 refl z)
+
+both-pass : (p q : Answer) → together p q ≡ Done → (p ≡ Done) × (q ≡ Done)
+unfolding together
+both-pass Done q e = (refl, e)
+both-pass (Refused r i) Done e = never r i e
+both-pass (Refused r i) (Refused s j) e = go (leb (refusalNumber r) (refusalNumber s)) e
+  where
+    go : {A : Type 0} (t : Bool) → cond t (Refused r i) (Refused s j) ≡ Done → A
+    go true e = never r i e
+    go false e = never s j e
+
+-- ---- of two answers
+pub together-first : (p q : Answer) → ((x y : Answer) → onDone p x y ≡ y) → q ≡ Done → p ≡ together p q
+unfolding together
+together-first p q hp d = sym (hp _ _ ∙ rw d)
+
+module _ (p q : Answer) {m n : ℕ} (hp : (x y : Answer) → onDone p x y ≡ y) (hq : (x y : Answer) → onDone q x y ≡ y) (e : m ≡ number p) (f : n ≡ number q) where
+  by-numbers : cond (leb m n) p q ≡ together p q
+  unfolding together
+  by-numbers = ap (λ t. cond t p q) (ap (λ x. leb x n) e ∙ ap (leb (number p)) f) ∙ sym (hp _ _ ∙ hq _ _)
+
+  pub together-lower : m ≤ n → p ≡ together p q
+  together-lower l = sym (ap (λ t. cond t p q) (le-leb m n l)) ∙ by-numbers
+
+  pub together-higher : n < m → q ≡ together p q
+  together-higher l = sym (ap (λ t. cond t p q) (lt-leb m n l)) ∙ by-numbers
+
+-- what a test that its function's contract settles told when it passed
+pub passed : {r t : Answer} → r ≡ t → r ≡ Done → t ≡ Done
+passed e d = sym e ∙ d
+
+-- ---- of all four
+pub each-passes : (r g b a : TransferFunction) (pool : List Float) → functionsAnswer r g b a pool ≡ Done → (c : ℕ) → functionAnswer (ofChannel r g b a c) pool ≡ Done
+unfolding functionsAnswer
+each-passes r g b a pool e c = go (both-pass (together (functionAnswer r pool) (functionAnswer g pool)) (together (functionAnswer b pool) (functionAnswer a pool)) e) c
+  where
+    go : (together (functionAnswer r pool) (functionAnswer g pool) ≡ Done) × (together (functionAnswer b pool) (functionAnswer a pool) ≡ Done) → (c : ℕ) → functionAnswer (ofChannel r g b a c) pool ≡ Done
+    go h zero = both-pass (functionAnswer r pool) (functionAnswer g pool) (h .0) .0
+    go h (suc zero) = both-pass (functionAnswer r pool) (functionAnswer g pool) (h .0) .1
+    go h (suc (suc zero)) = both-pass (functionAnswer b pool) (functionAnswer a pool) (h .1) .0
+    go h (suc (suc (suc c))) = both-pass (functionAnswer b pool) (functionAnswer a pool) (h .1) .1
+
+module _ (m : Numbers) (pool : List Float) (e : entriesAnswer m pool ≡ Done) where
+  pub entries-in : isIn m (length pool) ≡ true
+  unfolding entriesAnswer
+  entries-in = range-in m pool (cond-done (leb (m .length) 256) (rangeAnswer m pool) _ e .1)
+
+  few : m .length ≤ 256
+  unfolding entriesAnswer
+  few = leb-true (m .length) 256 (cond-done (leb (m .length) 256) (rangeAnswer m pool) _ e .0)
+
+  pub entries-count : eqb (m .length) 0 ≡ false → (0 < length (numbersOf m pool)) × (length (numbersOf m pool) ≤ 256)
+  entries-count n =
+      let l = length-numbers m pool entries-in in
+      let z = eqb-false (m .length) 0 n in
+      let f = few in
+      (omega arith, omega arith)

@@ -1,0 +1,81 @@
+-- What the component transfer answers, and what byte k of its result is. Definitions only.
+use Prim.Native.Nat.{ℕ, zero, suc, _%_}
+use mathlib.Core.Bool.{Bool, true, false, cond}
+use mathlib.Core.List.{List, [], _∷_}
+use lib.ListN.{length, getD}
+use lib.Dec.{leb, eqb}
+use lib.Ieee.{Float}
+use Rattle.floats.specs.Channel.{normalized, fromNormalized}
+use Rattle.sheet.specs.declared.Refusal.the-variants.{Shape}
+use Rattle.sheet.specs.declared.Answer.{Answer}
+use Rattle.sheet.specs.declared.Answer.the-variants.{Done}
+use Rattle.sheet.specs.Answer.{number, refused, onDone, andThen}
+use Rattle.sheet.specs.Size.{sheetsAnswer}
+use Rattle.sheet.specs.Tabulate.{tabulate}
+use Rattle.pool.specs.declared.Numbers.{Numbers}
+use Rattle.pool.specs.Pool.{numbersAnswer, numbersOf, rangeAnswer}
+use Rattle.component_transfer.specs.declared.TransferFunction.{TransferFunction}
+use Rattle.component_transfer.specs.declared.TransferFunction.the-variants.{Identity, Table, Discrete, Linear}
+use Rattle.component_transfer.specs.Functions as Functions
+
+-- ---- tests 3, 4 and 5
+-- of a table's entries
+unfoldable pub entriesAnswer : Numbers → List Float → Answer
+entriesAnswer m pool = cond (leb (m .length) 256) (rangeAnswer m pool) (refused Shape)
+
+-- of a slope and an intercept
+unfoldable pub linearAnswer : Float → Float → Answer
+linearAnswer slope intercept = numbersAnswer (slope ∷ intercept ∷ [])
+
+-- of one channel's function
+abbrev pub functionAnswer : TransferFunction → List Float → Answer
+functionAnswer Identity pool = Done
+functionAnswer (Table m) pool = entriesAnswer m pool
+functionAnswer (Discrete m) pool = entriesAnswer m pool
+functionAnswer (Linear slope intercept) pool = linearAnswer slope intercept
+
+-- a test is made of both before the next one: of two refusals the lower number stands
+unfoldable pub together : Answer → Answer → Answer
+together p q = onDone p q (onDone q p (cond (leb (number p) (number q)) p q))
+
+unfoldable pub functionsAnswer : (r g b a : TransferFunction) → List Float → Answer
+functionsAnswer r g b a pool =
+    together (together (functionAnswer r pool) (functionAnswer g pool)) (together (functionAnswer b pool) (functionAnswer a pool))
+
+-- the whole answer, for a sheet
+unfoldable pub answer : (r g b a : TransferFunction) → List Float → ℕ → ℕ → List ℕ → Answer
+answer r g b a pool w h src = andThen (sheetsAnswer w h (length src ∷ [])) (functionsAnswer r g b a pool)
+
+-- ---- the bytes
+-- resvg's `is_dummy`
+abbrev pub isDummy : TransferFunction → Bool
+isDummy Identity = true
+isDummy (Table m) = eqb (m .length) 0
+isDummy (Discrete m) = eqb (m .length) 0
+isDummy (Linear slope intercept) = false
+
+-- the function of a channel's number from 0 to 1
+abbrev pub numberOf : TransferFunction → List Float → Float → Float
+numberOf Identity pool c = c
+numberOf (Table m) pool c = Functions.table (numbersOf m pool) c
+numberOf (Discrete m) pool c = Functions.discrete (numbersOf m pool) c
+numberOf (Linear slope intercept) pool c = Functions.linear slope intercept c
+
+-- resvg's `transfer` of a channel's byte, which a dummy function leaves alone
+unfoldable pub transfer : TransferFunction → List Float → ℕ → ℕ
+transfer f pool c = cond (isDummy f) c (fromNormalized (numberOf f pool (normalized c)))
+
+-- what belongs to channel c, of what belongs to red, green, blue and alpha
+abbrev pub ofChannel : {A : Type 0} (r g b a : A) → ℕ → A
+ofChannel r g b a zero = r
+ofChannel r g b a (suc zero) = g
+ofChannel r g b a (suc (suc zero)) = b
+ofChannel r g b a (suc (suc (suc c))) = a
+
+-- byte k is its channel's function of byte k
+abbrev pub transferAt : (r g b a : TransferFunction) → List Float → List ℕ → ℕ → ℕ
+transferAt r g b a pool s k = transfer (ofChannel r g b a (k % 4)) pool (getD s k 0)
+
+-- the result
+unfoldable pub transferred : (r g b a : TransferFunction) → List Float → List ℕ → List ℕ
+transferred r g b a pool s = tabulate (length s) (transferAt r g b a pool s)

@@ -1,0 +1,3 @@
+pub mod Functions
+pub mod ComponentTransfer
+pub mod Reads

@@ -1,0 +1,74 @@
+// Each channel's function worked out once for every byte, and looked up pixel by pixel.
+use crate::TransferFunction;
+use crate::functions;
+use sheet::pixel::Straight;
+ghost use mathlib.Core.Path.{_≡_};
+ghost use Prim.Native.Nat.{_%_};
+ghost use lib.ListN.{length, getD};
+ghost use Rattle.sheet.specs.declared.Answer.the-variants.{Done};
+ghost use Rattle.sheet.specs.Pixel.{channel, Channels};
+ghost use Rattle.sheet.specs.Tabulate.{tabulate};
+ghost use Rattle.component_transfer.specs.ComponentTransfer as ComponentTransfer;
+
+// A function's byte for every byte.
+fn every_byte(f: TransferFunction, pool: &[f32]) -> [u8; 256]
+    requires { ⌜ ComponentTransfer.functionAnswer f (now pool) ≡ Done ⌝ }
+    ensures { λ r. ⌜ r ≡ tabulate 256 (ComponentTransfer.transfer f (now (pool .entry))) ⌝ }
+{
+    let mut bytes = [0u8; 256];
+    let mut i: usize = 0;
+    while i < 256 {
+        bytes[i] = functions::transfer(f, pool, i as u8);
+        i += 1;
+    }
+    bytes
+}
+
+fn wide(x: u8) -> usize
+    ensures { λ r. ⌜ r ≡ x ⌝ }
+{
+    x as usize
+}
+
+// A pixel whose channels are looked up, each in its own bytes.
+fn looked_up(
+    r: &[u8; 256],
+    g: &[u8; 256],
+    b: &[u8; 256],
+    a: &[u8; 256],
+    pixel: Straight,
+) -> Straight
+    ensures { λ p. ⌜ Channels (p .0) (getD (now (r .entry)) (channel 0 (pixel .0)) 0) (getD (now (g .entry)) (channel 1 (pixel .0)) 0) (getD (now (b .entry)) (channel 2 (pixel .0)) 0) (getD (now (a .entry)) (channel 3 (pixel .0)) 0) ⌝ }
+{
+    Straight(sheet::pixel::pixel_of(
+        r[wide(sheet::pixel::red(pixel.0))],
+        g[wide(sheet::pixel::green(pixel.0))],
+        b[wide(sheet::pixel::blue(pixel.0))],
+        a[wide(sheet::pixel::alpha(pixel.0))],
+    ))
+}
+
+// Transfers every pixel by functions that passed the tests.
+pub fn transfer_all(
+    r: TransferFunction,
+    g: TransferFunction,
+    b: TransferFunction,
+    a: TransferFunction,
+    pool: &[f32],
+    src: &mut [u8],
+)
+    requires { ⌜ ComponentTransfer.functionsAnswer r g b a (now pool) ≡ Done ⌝ }
+    requires { ⌜ length (now src) % 4 ≡ 0 ⌝ }
+    ensures { λ _. ⌜ now (src .exit) ≡ ComponentTransfer.transferred r g b a (now (pool .entry)) (now (src .entry)) ⌝ }
+{
+    let red = every_byte(r, pool);
+    let green = every_byte(g, pool);
+    let blue = every_byte(b, pool);
+    let alpha = every_byte(a, pool);
+    let mut k = 0;
+    while k < src.len() {
+        let p = sheet::pixel::straight_at(&src[..], k);
+        sheet::pixel::put_straight(src, k, looked_up(&red, &green, &blue, &alpha, p));
+        k += 4;
+    }
+}

@@ -1,0 +1,62 @@
+-- Each channel is made of the two channels and the new alpha.
+use borrow.Author.Needs.{needs}
+use mathlib.Core.Path.{ap, _∙_}
+use Rattle.sheet.specs.Pixel.{channel}
+use Rattle.sheet.proofs.Filling.{channels-as}
+use Rattle.composite.specs.Arithmetic.{colour, scaled}
+use Rattle.composite.proofs.pixel.with_alpha.Statement.{statement}
+use Rattle.composite.proofs.pixel.with_alpha.Tie as tie
+
+red-requires : tie.Need-red-requires
+red-requires c κs = search needs
+
+red-requires-2 : tie.Need-red-requires-2
+red-requires-2 c κs = search needs
+
+colour-requires : tie.Need-colour-requires
+colour-requires c κs = search needs
+
+green-requires : tie.Need-green-requires
+green-requires c κs = search needs
+
+green-requires-2 : tie.Need-green-requires-2
+green-requires-2 c κs = search needs
+
+colour-requires-2 : tie.Need-colour-requires-2
+colour-requires-2 c κs = search needs
+
+blue-requires : tie.Need-blue-requires
+blue-requires c κs = search needs
+
+blue-requires-2 : tie.Need-blue-requires-2
+blue-requires-2 c κs = search needs
+
+colour-requires-3 : tie.Need-colour-requires-3
+colour-requires-3 c κs = search needs
+
+scaled-to-byte-requires : tie.Need-scaled-to-byte-requires
+scaled-to-byte-requires c κs = search needs
+
+pixel-of-requires : tie.Need-pixel-of-requires
+pixel-of-requires c κs = search needs
+
+returns : tie.Need-returns
+unfolding scaled
+returns c = channels-as (c .pixel-of .ensures) (c .before .before .before .before .before .before .before .before .colour .ensures ∙ (ap (λ x. colour (c .before .before .before .before .before .before .before .before .before .before .before .args .k) x (c .before .before .before .before .before .before .before .before .before .red2 .result) (c .before .before .before .before .before .before .before .before .before .before .before .args .a)) (c .before .before .before .before .before .before .before .before .before .before .red .ensures) ∙ ap (λ x. colour (c .before .before .before .before .before .before .before .before .before .before .before .args .k) (channel 0 (c .before .before .before .before .before .before .before .before .before .before .before .args .c1)) x (c .before .before .before .before .before .before .before .before .before .before .before .args .a)) (c .before .before .before .before .before .before .before .before .before .red2 .ensures))) (c .before .before .before .before .before .colour2 .ensures ∙ (ap (λ x. colour (c .before .before .before .before .before .before .before .before .before .before .before .args .k) x (c .before .before .before .before .before .before .green2 .result) (c .before .before .before .before .before .before .before .before .before .before .before .args .a)) (c .before .before .before .before .before .before .before .green .ensures) ∙ ap (λ x. colour (c .before .before .before .before .before .before .before .before .before .before .before .args .k) (channel 1 (c .before .before .before .before .before .before .before .before .before .before .before .args .c1)) x (c .before .before .before .before .before .before .before .before .before .before .before .args .a)) (c .before .before .before .before .before .before .green2 .ensures))) (c .before .before .colour3 .ensures ∙ (ap (λ x. colour (c .before .before .before .before .before .before .before .before .before .before .before .args .k) x (c .before .before .before .blue2 .result) (c .before .before .before .before .before .before .before .before .before .before .before .args .a)) (c .before .before .before .before .blue .ensures) ∙ ap (λ x. colour (c .before .before .before .before .before .before .before .before .before .before .before .args .k) (channel 2 (c .before .before .before .before .before .before .before .before .before .before .before .args .c1)) x (c .before .before .before .before .before .before .before .before .before .before .before .args .a)) (c .before .before .before .blue2 .ensures))) (c .before .scaled-to-byte .ensures)
+
+pub with-alpha-spec : {M : Type 1} → statement M
+with-alpha-spec =
+    tie.close
+    (tie.spec
+    red-requires
+    red-requires-2
+    colour-requires
+    green-requires
+    green-requires-2
+    colour-requires-2
+    blue-requires
+    blue-requires-2
+    colour-requires-3
+    scaled-to-byte-requires
+    pixel-of-requires
+    returns)

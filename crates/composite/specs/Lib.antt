@@ -1,0 +1,3 @@
+pub mod Arithmetic
+pub mod Composite
+pub mod Reads

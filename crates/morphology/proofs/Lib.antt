@@ -1,0 +1,6 @@
+pub mod Windows
+pub mod Reading
+mod Signed
+mod Merging
+mod Spreading
+mod Passes

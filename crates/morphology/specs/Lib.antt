@@ -1,0 +1,4 @@
+pub mod Extremum
+pub mod Morphology
+pub mod Reads
+pub mod Lines

@@ -1,0 +1,3 @@
+mod Mapping
+mod Calls
+mod Operators

@@ -1,0 +1,48 @@
+-- The lengths are tested first, and what passes is handed on.
+use borrow.Author.Needs.{needs}
+use mathlib.Core.Path.{refl}
+use Rattle.sheet.proofs.Answers.{refusing}
+use Rattle.nuprikhen.proofs.Calls.{called-refused, called-done, pair-same}
+use Rattle.nuprikhen.proofs.leaves.nup_to_bytes.Statement.{statement}
+use Rattle.nuprikhen.proofs.leaves.nup_to_bytes.Tie as tie
+
+test-requires : tie.Need-test-requires
+test-requires c κs = search needs
+
+enum-told : tie.Need-enum-told
+enum-told c = search needs
+
+enum-told-2 : tie.Need-enum-told-2
+enum-told-2 c = search needs
+
+told-requires : tie.Need-told-requires
+told-requires c κs = search needs
+
+returns : tie.Need-returns
+returns c = called-refused (c .before .before .before .test .ensures) (c .told .ensures) (refusing (c .before .before .before .test .result) (c .before .before .match .keys2)) refl
+
+to-bytes-requires : tie.Need-to-bytes-requires
+to-bytes-requires c κs = pair-same (c .before .before .before .test .ensures) (c .before .enum-told .given .1)
+
+told-requires-2 : tie.Need-told-requires-2
+told-requires-2 c κs = search needs
+
+same-length : tie.Need-same-length
+same-length c = search needs
+
+returns-2 : tie.Need-returns-2
+returns-2 c = called-done (c .before .before .before .before .before .before .before .test .ensures) (c .told2 .ensures) (c .before .before .before .before .before .enum-told .given .1) (c .before .before .before .to-bytes .ensures)
+
+pub nup-to-bytes-spec : {M : Type 1} → statement M
+nup-to-bytes-spec =
+    tie.close
+    (tie.spec
+    test-requires
+    enum-told
+    enum-told-2
+    told-requires
+    returns
+    to-bytes-requires
+    told-requires-2
+    same-length
+    returns-2)

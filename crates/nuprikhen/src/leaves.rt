@@ -1,0 +1,93 @@
+// The leaves over whole slices, for comparing and measuring. Two lengths that differ are refused 2.
+use crate::nup_answer;
+use crate::told;
+use sheet::Answer;
+use sheet::Refusal;
+ghost use mathlib.Core.Path.{_≡_};
+ghost use mathlib.Core.List.{map, [], _∷_};
+ghost use lib.ListN.{length};
+ghost use lib.Ieee.{toUnsigned};
+ghost use Rattle.floats.specs.Round.{roundTo};
+ghost use Rattle.sheet.specs.declared.Answer.the-variants.{Done};
+ghost use Rattle.sheet.specs.Size.{lengthsAnswer};
+ghost use Rattle.sheet.specs.Tabulate.{zeros};
+ghost use Rattle.nuprikhen.specs.Called.{Called, pairAnswer};
+
+fn test(a: usize, b: usize) -> Answer
+    ensures { λ r. ⌜ r ≡ lengthsAnswer a (b ∷ []) ⌝ }
+{
+    if b != a {
+        return Answer::Refused(Refusal::Length, 0);
+    }
+    Answer::Done
+}
+
+fn to_bytes(xs: &[f32], out: &mut [u8])
+    requires { ⌜ length (now xs) ≡ length (now out) ⌝ }
+    ensures { λ _. ⌜ now (out .exit) ≡ map (toUnsigned 8) (now (xs .entry)) ⌝ }
+{
+    let mut i = 0;
+    while i < out.len() {
+        out[i] = floats::to_byte(xs[i]);
+        i += 1;
+    }
+}
+
+fn round_to_i32s(xs: &[f32], out: &mut [i32])
+    requires { ⌜ length (now xs) ≡ length (now out) ⌝ }
+    ensures { λ _. ⌜ now (out .exit) ≡ map (roundTo 31) (now (xs .entry)) ⌝ }
+{
+    let mut i = 0;
+    while i < out.len() {
+        out[i] = floats::round_to_i32(xs[i]);
+        i += 1;
+    }
+}
+
+// Each of xs as a byte.
+#[no_mangle]
+pub extern "C" fn nup_to_bytes(xs: &[f32], out: &mut [u8]) -> nup_answer
+    ensures { λ r. ⌜ Called (pairAnswer xs out) r (map (toUnsigned 8) (now (xs .entry))) out ⌝ }
+{
+    let tested = test(xs.len(), out.len());
+    let Answer::Done = tested else {
+        return told(tested);
+    };
+    to_bytes(xs, out);
+    told(tested)
+}
+
+// Each of xs rounded, a half away from zero.
+#[no_mangle]
+pub extern "C" fn nup_round_to_i32s(xs: &[f32], out: &mut [i32]) -> nup_answer
+    ensures { λ r. ⌜ Called (pairAnswer xs out) r (map (roundTo 31) (now (xs .entry))) out ⌝ }
+{
+    let tested = test(xs.len(), out.len());
+    let Answer::Done = tested else {
+        return told(tested);
+    };
+    round_to_i32s(xs, out);
+    told(tested)
+}
+
+// dst takes src's bytes.
+#[no_mangle]
+pub extern "C" fn nup_copy(src: &[u8], dst: &mut [u8]) -> nup_answer
+    ensures { λ r. ⌜ Called (pairAnswer src dst) r (now (src .entry)) dst ⌝ }
+{
+    let tested = test(src.len(), dst.len());
+    let Answer::Done = tested else {
+        return told(tested);
+    };
+    sheet::copy(src, dst);
+    told(tested)
+}
+
+// Every byte of dst becomes 0.
+#[no_mangle]
+pub extern "C" fn nup_clear(dst: &mut [u8]) -> nup_answer
+    ensures { λ r. ⌜ Called Done r (zeros (length (now (dst .entry)))) dst ⌝ }
+{
+    sheet::clear(dst);
+    told(Answer::Done)
+}
