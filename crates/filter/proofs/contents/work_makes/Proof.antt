@@ -1,0 +1,65 @@
+-- By the cases of the work, from what the slots that are read hold.
+use borrow.Author.Needs.{needs}
+use Rattle.filter.proofs.contents.work_makes.Statement.{statement}
+use Rattle.filter.proofs.contents.work_makes.Tie as tie
+
+enum-known-work : tie.Need-enum-known-work
+enum-known-work c = search needs
+
+content-in-requires : tie.Need-content-in-requires
+content-in-requires c κs = search needs
+
+of-premultiplied-requires : tie.Need-of-premultiplied-requires
+of-premultiplied-requires c κs = search needs
+
+enum-known-work-2 : tie.Need-enum-known-work-2
+enum-known-work-2 c = search needs
+
+content-in-requires-2 : tie.Need-content-in-requires-2
+content-in-requires-2 c κs = search needs
+
+content-in-requires-3 : tie.Need-content-in-requires-3
+content-in-requires-3 c κs = search needs
+
+of-premultiplied-requires-2 : tie.Need-of-premultiplied-requires-2
+of-premultiplied-requires-2 c κs = search needs
+
+of-premultiplied-requires-3 : tie.Need-of-premultiplied-requires-3
+of-premultiplied-requires-3 c κs = search needs
+
+enum-known-work-3 : tie.Need-enum-known-work-3
+enum-known-work-3 c = search needs
+
+content-in-requires-4 : tie.Need-content-in-requires-4
+content-in-requires-4 c κs = search needs
+
+of-straight-requires : tie.Need-of-straight-requires
+of-straight-requires c κs = search needs
+
+returns : tie.Need-returns
+returns c = rw (c .before .before .before .work .given .1) (cc (c .of-premultiplied .ensures, c .before .content-in .ensures))
+
+returns-2 : tie.Need-returns-2
+returns-2 c = rw (c .before .before .before .before .before .work2 .given .1) (cc (c .of-premultiplied3 .ensures, c .before .of-premultiplied2 .ensures, c .before .before .before .content-in2 .ensures, c .before .before .content-in3 .ensures))
+
+returns-3 : tie.Need-returns-3
+returns-3 c = rw (c .before .before .before .work3 .given .1) (cc (c .of-straight .ensures, c .before .content-in4 .ensures))
+
+pub work-makes-spec : {M : Type 1} → statement M
+work-makes-spec =
+    tie.close
+    (tie.spec
+    enum-known-work
+    content-in-requires
+    of-premultiplied-requires
+    enum-known-work-2
+    content-in-requires-2
+    content-in-requires-3
+    of-premultiplied-requires-2
+    of-premultiplied-requires-3
+    enum-known-work-3
+    content-in-requires-4
+    of-straight-requires
+    returns
+    returns-2
+    returns-3)

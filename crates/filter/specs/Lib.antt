@@ -1,0 +1,4 @@
+pub mod Recipe
+pub mod Slots
+pub mod Reach
+pub mod Engine
