@@ -1,0 +1,276 @@
+// A stored recipe, in little-endian u32 words: width, height, kind (0 straight, 1 premultiplied), P, the P numbers of the pool,
+// count, S, and S steps of nine words: code, output, two inputs and five parameters; then five times a sheet's length with its
+// bytes, for slots 0 to 3 and scratch; then the answer's number and step, 1 where the result reaches slot 0 and else 0, and the
+// five sheets' bytes after the run. Bytes are padded to a whole number of words.
+use crate::cases;
+use crate::cases::Span;
+use crate::cases::Stored;
+use crate::reader;
+use color_matrix::ColorMatrix;
+use filter::Kind;
+use filter::Recipe;
+use filter::Step;
+use filter::Work;
+use morphology::MorphologyOperator;
+use pool::Numbers;
+ghost use Prim.Native.Nat.{_+_, _<_, _≤_};
+ghost use lib.ListN.{length};
+
+// A run: what stands in its words, and where its pool and steps stand.
+pub struct Run {
+    pub width: usize,
+    pub height: usize,
+    pub kind: u32,
+    pub pool: usize,
+    pub pool_length: usize,
+    pub count: usize,
+    pub steps: usize,
+    pub step_count: usize,
+    pub source: Stored,
+    pub slot1: Stored,
+    pub slot2: Stored,
+    pub slot3: Stored,
+    pub scratch: Stored,
+    pub number: u32,
+    pub step: u32,
+    pub reaches: u32,
+    pub next: usize,
+}
+
+// The bytes of the five sheets.
+struct Sheets {
+    source: Span,
+    slot1: Span,
+    slot2: Span,
+    slot3: Span,
+    scratch: Span,
+}
+
+// The run at `at`. What stands past the end of the list counts as zeros.
+pub fn read(list: &[u8], at: usize) -> Run
+    requires { ⌜ at < 4294967296 ⌝ }
+    ensures { λ r. ⌜ at < r .next ⌝ }
+{
+    let pool_length = cases::count_at(list, at + 12);
+    let counts = at + 16 + 4 * pool_length;
+    let step_count = cases::count_at(list, counts + 4);
+    let before = sheets_at(list, counts + 8 + 36 * step_count);
+    let answer = before.scratch.end;
+    let number = reader::word_at(list, answer);
+    let step = reader::word_at(list, answer + 4);
+    let reaches = reader::word_at(list, answer + 8);
+    let after1 = answer + 12 + cases::padded(before.source.length);
+    let after2 = after1 + cases::padded(before.slot1.length);
+    let after3 = after2 + cases::padded(before.slot2.length);
+    let after4 = after3 + cases::padded(before.slot3.length);
+    let next = after4 + cases::padded(before.scratch.length);
+    Run {
+        width: cases::count_at(list, at),
+        height: cases::count_at(list, at + 4),
+        kind: reader::word_at(list, at + 8),
+        pool: at + 16,
+        pool_length: pool_length,
+        count: cases::count_at(list, counts),
+        steps: counts + 8,
+        step_count: step_count,
+        source: stored(before.source, answer + 12),
+        slot1: stored(before.slot1, after1),
+        slot2: stored(before.slot2, after2),
+        slot3: stored(before.slot3, after3),
+        scratch: stored(before.scratch, after4),
+        number: number,
+        step: step,
+        reaches: reaches,
+        next: next,
+    }
+}
+
+fn sheets_at(list: &[u8], at: usize) -> Sheets
+    requires { ⌜ at < 274877906944 ⌝ }
+    ensures { λ r. ⌜ (at ≤ r .scratch .end) × (r .scratch .end ≤ at + 21474836520) × (r .source .length < 4294967296) × (r .slot1 .length < 4294967296) × (r .slot2 .length < 4294967296) × (r .slot3 .length < 4294967296) × (r .scratch .length < 4294967296) ⌝ }
+{
+    let source = cases::span_at(list, at, true);
+    let slot1 = cases::span_at(list, source.end, true);
+    let slot2 = cases::span_at(list, slot1.end, true);
+    let slot3 = cases::span_at(list, slot2.end, true);
+    let scratch = cases::span_at(list, slot3.end, true);
+    Sheets {
+        source: source,
+        slot1: slot1,
+        slot2: slot2,
+        slot3: slot3,
+        scratch: scratch,
+    }
+}
+
+fn stored(before: Span, after: usize) -> Stored {
+    Stored {
+        before: before.at,
+        after: after,
+        length: before.length,
+    }
+}
+
+// Word i after `at`, which may be anywhere.
+fn word(list: &[u8], at: usize, i: usize) -> u32
+    requires { ⌜ i < 4096 ⌝ }
+{
+    if list.len() < at {
+        return 0;
+    }
+    reader::word_at(&list[at..], 4 * i)
+}
+
+fn float(list: &[u8], at: usize, i: usize) -> f32
+    requires { ⌜ i < 4096 ⌝ }
+{
+    reader::float(word(list, at, i))
+}
+
+// A slot's number; there is none over 255.
+fn slot(list: &[u8], at: usize, i: usize) -> u8
+    requires { ⌜ i < 4096 ⌝ }
+{
+    let n = word(list, at, i);
+    if n < 256 { n as u8 } else { 255 }
+}
+
+// The numbers of the run's pool, as many as `numbers` holds.
+pub fn pool(list: &[u8], run: Run, numbers: &mut [f32])
+    requires { ⌜ length (now numbers) ≤ 512 ⌝ }
+{
+    let at = run.pool;
+    let mut i = 0;
+    while i < numbers.len() {
+        numbers[i] = float(list, at, i);
+        i += 1;
+    }
+}
+
+pub fn kind(run: Run) -> Kind {
+    if run.kind == 0 {
+        Kind::Straight
+    } else {
+        Kind::Premultiplied
+    }
+}
+
+// The recipe of the run; a list has no more than 16 steps for it.
+pub fn recipe(list: &[u8], run: Run) -> Recipe {
+    let mut steps = [no_step(); 16];
+    let mut i = 0;
+    while i < 16 {
+        steps[i] = step_of(list, run, i);
+        i += 1;
+    }
+    Recipe {
+        steps: steps,
+        count: run.count,
+    }
+}
+
+// Step i of the run, where there is one.
+fn step_of(list: &[u8], run: Run, i: usize) -> Step
+    requires { ⌜ i < 16 ⌝ }
+{
+    if i < run.step_count {
+        return step_at(list, run.steps, 9 * i);
+    }
+    no_step()
+}
+
+// What stands for words that name no step: it writes slot 0, for which a run is refused.
+fn no_step() -> Step {
+    matrix_step(0, ColorMatrix::LuminanceToAlpha, 0)
+}
+
+// The step whose words begin at word i.
+fn step_at(list: &[u8], at: usize, i: usize) -> Step
+    requires { ⌜ i < 1024 ⌝ }
+{
+    let code = word(list, at, i);
+    let output = slot(list, at, i + 1);
+    let input = slot(list, at, i + 2);
+    if code == 1 {
+        morphology_at(list, at, i + 4, input, output)
+    } else if code == 2 {
+        color_matrix_at(list, at, i + 4, input, output)
+    } else if code == 3 {
+        arithmetic_at(list, at, i + 3, input, output)
+    } else {
+        no_step()
+    }
+}
+
+fn morphology_at(list: &[u8], at: usize, i: usize, input: u8, output: u8) -> Step
+    requires { ⌜ i < 2048 ⌝ }
+{
+    let operator = word(list, at, i);
+    let rx = float(list, at, i + 1);
+    let ry = float(list, at, i + 2);
+    if operator == 0 {
+        let work = Work::Morphology(input, MorphologyOperator::Dilate, rx, ry);
+        Step {
+            work: work,
+            output: output,
+        }
+    } else if operator == 1 {
+        let work = Work::Morphology(input, MorphologyOperator::Erode, rx, ry);
+        Step {
+            work: work,
+            output: output,
+        }
+    } else {
+        no_step()
+    }
+}
+
+fn color_matrix_at(list: &[u8], at: usize, i: usize, input: u8, output: u8) -> Step
+    requires { ⌜ i < 2048 ⌝ }
+{
+    let kind = word(list, at, i);
+    if kind == 0 {
+        let start = word(list, at, i + 1) as usize;
+        let length = word(list, at, i + 2) as usize;
+        matrix_step(
+            input,
+            ColorMatrix::Matrix(Numbers {
+                start: start,
+                length: length,
+            }),
+            output,
+        )
+    } else if kind == 1 {
+        matrix_step(input, ColorMatrix::Saturate(float(list, at, i + 1)), output)
+    } else if kind == 2 {
+        let cosine = float(list, at, i + 1);
+        let sine = float(list, at, i + 2);
+        matrix_step(input, ColorMatrix::HueRotate(cosine, sine), output)
+    } else if kind == 3 {
+        matrix_step(input, ColorMatrix::LuminanceToAlpha, output)
+    } else {
+        no_step()
+    }
+}
+
+fn matrix_step(input: u8, matrix: ColorMatrix, output: u8) -> Step {
+    Step {
+        work: Work::ColorMatrix(input, matrix),
+        output: output,
+    }
+}
+
+// The second input stands before the four numbers.
+fn arithmetic_at(list: &[u8], at: usize, i: usize, input: u8, output: u8) -> Step
+    requires { ⌜ i < 2048 ⌝ }
+{
+    let second = slot(list, at, i);
+    let k1 = float(list, at, i + 1);
+    let k2 = float(list, at, i + 2);
+    let k3 = float(list, at, i + 3);
+    let k4 = float(list, at, i + 4);
+    Step {
+        work: Work::Arithmetic(input, second, k1, k2, k3, k4),
+        output: output,
+    }
+}

@@ -1,0 +1,71 @@
+//! The C functions, as include/nuprikhen.h has them. A slice is its start, never null, and its number
+//! of elements.
+
+use crate::Refusal;
+
+/// The number of the answer, 0 when it is done, and the index of the step.
+#[repr(C)]
+pub struct Answer {
+    number: u8,
+    step: u8,
+}
+
+impl Answer {
+    pub fn told(self) -> Result<(), Refusal> {
+        match self.number {
+            0 => Ok(()),
+            number => Err(Refusal::new(number, self.step)),
+        }
+    }
+}
+
+unsafe extern "C" {
+    pub fn nup_morphology(
+        width: u32,
+        height: u32,
+        op: u8,
+        rx: f32,
+        ry: f32,
+        src: *mut u8,
+        src_len: usize,
+        scratch: *mut u8,
+        scratch_len: usize,
+    ) -> Answer;
+
+    pub fn nup_color_matrix(
+        width: u32,
+        height: u32,
+        m: *const f32,
+        m_len: usize,
+        src: *mut u8,
+        src_len: usize,
+    ) -> Answer;
+
+    pub fn nup_saturate(width: u32, height: u32, v: f32, src: *mut u8, src_len: usize) -> Answer;
+
+    pub fn nup_hue_rotate(
+        width: u32,
+        height: u32,
+        cosine: f32,
+        sine: f32,
+        src: *mut u8,
+        src_len: usize,
+    ) -> Answer;
+
+    pub fn nup_luminance_to_alpha(width: u32, height: u32, src: *mut u8, src_len: usize) -> Answer;
+
+    pub fn nup_arithmetic(
+        width: u32,
+        height: u32,
+        k1: f32,
+        k2: f32,
+        k3: f32,
+        k4: f32,
+        src1: *const u8,
+        src1_len: usize,
+        src2: *const u8,
+        src2_len: usize,
+        dest: *mut u8,
+        dest_len: usize,
+    ) -> Answer;
+}

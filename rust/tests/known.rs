@@ -1,0 +1,97 @@
+//! Document 01's known results, through the library.
+
+use nuprikhen::color_matrix::{self, ColorMatrix};
+use nuprikhen::morphology::{self, MorphologyOperator};
+use nuprikhen::{SIDE_LIMIT, composite};
+
+/// The alphas of a row after morphology; scratch, lent full of 7, is all zero afterwards.
+fn morphed(operator: MorphologyOperator, rx: f32, alphas: [u8; 3]) -> [u8; 3] {
+    let mut src = [0; 12];
+    let mut scratch = [7; 12];
+    for (pixel, alpha) in src.chunks_exact_mut(4).zip(alphas) {
+        pixel[3] = alpha;
+    }
+    morphology::apply(operator, rx, 0.0, 3, 1, &mut src, &mut scratch).expect("done");
+    assert_eq!(scratch, [0; 12]);
+    [src[3], src[7], src[11]]
+}
+
+#[test]
+fn morphology_of_a_row() {
+    let alphas = [10, 200, 30];
+    let dilated = |rx| morphed(MorphologyOperator::Dilate, rx, alphas);
+    let eroded = |rx| morphed(MorphologyOperator::Erode, rx, alphas);
+    assert_eq!(dilated(1.0), [200, 200, 200]);
+    assert_eq!(eroded(1.0), [10, 10, 30]);
+    assert_eq!(eroded(65_536.0), [10, 10, 10]);
+}
+
+#[test]
+fn radii_round_half_away_from_zero() {
+    let alphas = [10, 200, 30];
+    let dilated = |rx| morphed(MorphologyOperator::Dilate, rx, alphas);
+    assert_eq!(dilated(0.5), dilated(1.0));
+    assert_eq!(dilated(0.49999997), alphas);
+}
+
+#[test]
+fn arithmetic_is_cut() {
+    let clear = [0; 8];
+    let mut dest = [9; 8];
+    composite::arithmetic(0.0, 0.0, 0.0, 0.5, 2, 1, &clear, &clear, &mut dest).expect("done");
+    assert_eq!(dest, [127; 8]);
+}
+
+#[test]
+fn arithmetic_clears_where_alpha_is_zero() {
+    let clear = [0; 8];
+    let mut dest = [9; 8];
+    composite::arithmetic(0.0, 1.0, 1.0, 0.0, 2, 1, &clear, &clear, &mut dest).expect("done");
+    assert_eq!(dest, clear);
+}
+
+#[test]
+fn each_color_matrix() {
+    let after = |matrix: ColorMatrix| {
+        let mut src = [255, 0, 0, 99];
+        color_matrix::apply(&matrix, 1, 1, &mut src).expect("done");
+        src
+    };
+    let mut turned = [0.0; 20];
+    for (row, column) in [1, 2, 0, 3].into_iter().enumerate() {
+        turned[5 * row + column] = 1.0;
+    }
+    assert_eq!(after(ColorMatrix::Matrix(&turned)), [0, 0, 255, 99]);
+    assert_eq!(after(ColorMatrix::Saturate(0.0)), [54, 54, 54, 99]);
+    assert_eq!(after(ColorMatrix::Saturate(-1.0)), [54, 54, 54, 99]);
+    assert_eq!(after(ColorMatrix::HueRotate(1.0, 0.0)), [255, 0, 0, 99]);
+    assert_eq!(after(ColorMatrix::LuminanceToAlpha), [0, 0, 0, 54]);
+}
+
+#[test]
+fn sides_from_one_to_the_limit() {
+    for (side, number) in [(0, 1), (1, 0), (2048, 0), (2049, 1)] {
+        for (width, height) in [(side, 1), (1, side)] {
+            let mut src = vec![5; 4 * side as usize];
+            let mut scratch = vec![7; src.len()];
+            let (dilate, rx) = (MorphologyOperator::Dilate, 1.0);
+            let told = morphology::apply(dilate, rx, rx, width, height, &mut src, &mut scratch);
+            assert_eq!(told.map_or_else(|refusal| refusal.number, |()| 0), number);
+            assert!(
+                scratch
+                    .iter()
+                    .all(|&byte| byte == if number == 0 { 0 } else { 7 })
+            );
+        }
+    }
+    assert_eq!(SIDE_LIMIT, 2048);
+}
+
+/// White's luminance is a little below 1 in f32, and it is cut.
+#[test]
+fn the_largest_sheet() {
+    let mut src = vec![255; 4 * (SIDE_LIMIT * SIDE_LIMIT) as usize];
+    let matrix = ColorMatrix::LuminanceToAlpha;
+    color_matrix::apply(&matrix, SIDE_LIMIT, SIDE_LIMIT, &mut src).expect("done");
+    assert!(src.chunks_exact(4).all(|pixel| pixel == [0, 0, 0, 254]));
+}
