@@ -6,13 +6,11 @@ use native.Mathlib.Nat.{not-suc-le-zero}
 use native.Mathlib.Omega.{arith}
 use borrow.Author.Count.{below-more}
 use lib.ListN.{length, getD}
-use lib.Ieee.{Float}
 use Rattle.sheet.specs.Pixel.{channel, Channels, PixelAt, setPixel}
 use Rattle.sheet.specs.Tabulate.{tabulate}
 use Rattle.sheet.proofs.Filling.{Filling, fill-start, fill-pixel, fill-room, fill-read, fill-done}
 use Rattle.sheet.proofs.Tabulated.{getD-tabulate, tabulate-ext}
-use Rattle.component_transfer.specs.declared.TransferFunction.{TransferFunction}
-use Rattle.component_transfer.specs.ComponentTransfer.{transfer, ofChannel, transferAt, transferred}
+use Rattle.component_transfer.specs.ComponentTransfer.{ofChannel, transferAt, transferred}
 
 -- byte j, looked up in its channel's bytes
 abbrev pub lookedUpAt : (red green blue alpha s : List ℕ) → ℕ → ℕ
@@ -59,16 +57,15 @@ look-up-pixel {red} {green} {blue} {alpha} {s₀} {s} {s′} {k} p p′ r whole 
       bytes = more-bytes s₀ k p own (r .bytes);
     }
 
-module _ (r g b a : TransferFunction) (pool : List Float) {red green blue alpha : List ℕ}
-    (e₀ : red ≡ tabulate 256 (transfer r pool)) (e₁ : green ≡ tabulate 256 (transfer g pool)) (e₂ : blue ≡ tabulate 256 (transfer b pool)) (e₃ : alpha ≡ tabulate 256 (transfer a pool)) where
-  each-channel : (c : ℕ) → ofChannel red green blue alpha c ≡ tabulate 256 (transfer (ofChannel r g b a c) pool)
+module _ (r g b a : ℕ → ℕ) {red green blue alpha : List ℕ} (e₀ : red ≡ tabulate 256 r) (e₁ : green ≡ tabulate 256 g) (e₂ : blue ≡ tabulate 256 b) (e₃ : alpha ≡ tabulate 256 a) where
+  each-channel : (c : ℕ) → ofChannel red green blue alpha c ≡ tabulate 256 (ofChannel r g b a c)
   each-channel zero = e₀
   each-channel (suc zero) = e₁
   each-channel (suc (suc zero)) = e₂
   each-channel (suc (suc (suc c))) = e₃
 
-  pub look-up-done : {s₀ s : List ℕ} {k : ℕ} → LookedUp red green blue alpha s₀ s k → length s ≤ k → s ≡ transferred r g b a pool s₀
+  pub look-up-done : {s₀ s : List ℕ} {k : ℕ} → LookedUp red green blue alpha s₀ s k → length s ≤ k → s ≡ transferred r g b a s₀
   unfolding transferred
   look-up-done {s₀} {s} {k} u h =
-      fill-done (u .filled) h refl ∙ tabulate-ext (length s₀) (lookedUpAt red green blue alpha s₀) (transferAt r g b a pool s₀)
-      (λ j l. ap (λ t. getD t (getD s₀ j 0) 0) (each-channel (j % 4)) ∙ getD-tabulate 256 (transfer (ofChannel r g b a (j % 4)) pool) (getD s₀ j 0) (u .bytes j (let f = u .filled in omega arith)))
+      fill-done (u .filled) h refl ∙ tabulate-ext (length s₀) (lookedUpAt red green blue alpha s₀) (transferAt r g b a s₀)
+      (λ j l. ap (λ t. getD t (getD s₀ j 0) 0) (each-channel (j % 4)) ∙ getD-tabulate 256 (ofChannel r g b a (j % 4)) (getD s₀ j 0) (u .bytes j (let f = u .filled in omega arith)))

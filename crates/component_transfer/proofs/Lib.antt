@@ -1,4 +1,4 @@
-mod Passed
+pub mod Passed
 mod Cases
 mod Bytes
 pub mod Reading

@@ -1,5 +1,5 @@
 -- What functions that pass their tests tell: each passes by itself, and a table's entries lie in the pool and are at most 256.
-use Prim.Native.Nat.{ℕ, zero, suc, _≤_, _<_}
+use Prim.Native.Nat.{ℕ, _≤_, _<_}
 use mathlib.Core.Path.{_≡_, refl, sym, ap, _∙_}
 use mathlib.Core.Bool.{Bool, true, false, cond}
 use mathlib.Core.List.{List}
@@ -16,8 +16,7 @@ use Rattle.sheet.proofs.Answers.{cond-done}
 use Rattle.pool.specs.declared.Numbers.{Numbers}
 use Rattle.pool.specs.Pool.{isIn, numbersOf, rangeAnswer}
 use Rattle.pool.proofs.Ranges.{range-in, length-numbers}
-use Rattle.component_transfer.specs.declared.TransferFunction.{TransferFunction}
-use Rattle.component_transfer.specs.ComponentTransfer.{entriesAnswer, functionAnswer, together, functionsAnswer, ofChannel}
+use Rattle.component_transfer.specs.ComponentTransfer.{entriesAnswer, together, functionsAnswer}
 
 never : {A : Type 0} (r : Refusal) (i : ℕ) → Refused r i ≡ Done → A
 never r i e = let z : _≡_ {A = ℕ} 0 1 = cc in absurd (eqb-false 0 1 refl z)
@@ -48,20 +47,18 @@ module _ (p q : Answer) {m n : ℕ} (hp : (x y : Answer) → onDone p x y ≡ y)
   pub together-higher : n < m → q ≡ together p q
   together-higher l = sym (ap (λ t. cond t p q) (lt-leb m n l)) ∙ by-numbers
 
--- what a test that its function's contract settles told when it passed
-pub passed : {r t : Answer} → r ≡ t → r ≡ Done → t ≡ Done
-passed e d = sym e ∙ d
-
 -- ---- of all four
-pub each-passes : (r g b a : TransferFunction) (pool : List Float) → functionsAnswer r g b a pool ≡ Done → (c : ℕ) → functionAnswer (ofChannel r g b a c) pool ≡ Done
+pub each-passes : {n r g b a : Answer} → n ≡ functionsAnswer r g b a → n ≡ Done → (r ≡ Done) × (g ≡ Done) × (b ≡ Done) × (a ≡ Done)
 unfolding functionsAnswer
-each-passes r g b a pool e c = go (both-pass (together (functionAnswer r pool) (functionAnswer g pool)) (together (functionAnswer b pool) (functionAnswer a pool)) e) c
-  where
-    go : (together (functionAnswer r pool) (functionAnswer g pool) ≡ Done) × (together (functionAnswer b pool) (functionAnswer a pool) ≡ Done) → (c : ℕ) → functionAnswer (ofChannel r g b a c) pool ≡ Done
-    go h zero = both-pass (functionAnswer r pool) (functionAnswer g pool) (h .0) .0
-    go h (suc zero) = both-pass (functionAnswer r pool) (functionAnswer g pool) (h .0) .1
-    go h (suc (suc zero)) = both-pass (functionAnswer b pool) (functionAnswer a pool) (h .1) .0
-    go h (suc (suc (suc c))) = both-pass (functionAnswer b pool) (functionAnswer a pool) (h .1) .1
+each-passes {n} {r} {g} {b} {a} e d =
+    let h = both-pass (together r g) (together b a) (sym e ∙ d) in
+    let p = both-pass r g (h .0) in
+    let q = both-pass b a (h .1) in
+    (p .0, p .1, q .0, q .1)
+
+pub all-pass : {r g b a : Answer} → r ≡ Done → g ≡ Done → b ≡ Done → a ≡ Done → functionsAnswer r g b a ≡ Done
+unfolding functionsAnswer together
+all-pass e f g h = rw (e, f, g, h)
 
 module _ (m : Numbers) (pool : List Float) (e : entriesAnswer m pool ≡ Done) where
   pub entries-in : isIn m (length pool) ≡ true

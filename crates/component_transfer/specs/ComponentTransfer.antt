@@ -5,6 +5,8 @@ use mathlib.Core.List.{List, [], _∷_}
 use lib.ListN.{length, getD}
 use lib.Dec.{leb, eqb}
 use lib.Ieee.{Float}
+use denote.Triple.Both.{Both}
+use denote.Ref.{RefT, now}
 use Rattle.floats.specs.Channel.{normalized, fromNormalized}
 use Rattle.sheet.specs.declared.Refusal.the-variants.{Shape}
 use Rattle.sheet.specs.declared.Answer.{Answer}
@@ -38,13 +40,13 @@ functionAnswer (Linear slope intercept) pool = linearAnswer slope intercept
 unfoldable pub together : Answer → Answer → Answer
 together p q = onDone p q (onDone q p (cond (leb (number p) (number q)) p q))
 
-unfoldable pub functionsAnswer : (r g b a : TransferFunction) → List Float → Answer
-functionsAnswer r g b a pool =
-    together (together (functionAnswer r pool) (functionAnswer g pool)) (together (functionAnswer b pool) (functionAnswer a pool))
+-- of what red, green, blue and alpha answer
+unfoldable pub functionsAnswer : (r g b a : Answer) → Answer
+functionsAnswer r g b a = together (together r g) (together b a)
 
 -- the whole answer, for a sheet
-unfoldable pub answer : (r g b a : TransferFunction) → List Float → ℕ → ℕ → List ℕ → Answer
-answer r g b a pool w h src = andThen (sheetsAnswer w h (length src ∷ [])) (functionsAnswer r g b a pool)
+unfoldable pub answer : (r g b a : Answer) → ℕ → ℕ → List ℕ → Answer
+answer r g b a w h src = andThen (sheetsAnswer w h (length src ∷ [])) (functionsAnswer r g b a)
 
 -- ---- the bytes
 -- resvg's `is_dummy`
@@ -73,9 +75,19 @@ ofChannel r g b a (suc (suc zero)) = b
 ofChannel r g b a (suc (suc (suc c))) = a
 
 -- byte k is its channel's function of byte k
-abbrev pub transferAt : (r g b a : TransferFunction) → List Float → List ℕ → ℕ → ℕ
-transferAt r g b a pool s k = transfer (ofChannel r g b a (k % 4)) pool (getD s k 0)
+abbrev pub transferAt : (r g b a : ℕ → ℕ) → List ℕ → ℕ → ℕ
+transferAt r g b a s k = ofChannel r g b a (k % 4) (getD s k 0)
 
--- the result
-unfoldable pub transferred : (r g b a : TransferFunction) → List Float → List ℕ → List ℕ
-transferred r g b a pool s = tabulate (length s) (transferAt r g b a pool s)
+-- the result, where r, g, b and a are what becomes of a byte of each channel
+unfoldable pub transferred : (r g b a : ℕ → ℕ) → List ℕ → List ℕ
+transferred r g b a s = tabulate (length s) (transferAt r g b a s)
+
+-- ---- over a lent pool itself
+abbrev pub Pool : Type 0
+Pool = Both (RefT (List Float)) (RefT (List Float))
+
+abbrev pub tested : TransferFunction → Pool → Answer
+tested f pool = functionAnswer f (now (pool .entry))
+
+abbrev pub byteOf : TransferFunction → Pool → ℕ → ℕ
+byteOf f pool = transfer f (now (pool .entry))

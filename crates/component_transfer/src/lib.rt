@@ -7,7 +7,7 @@ use sheet::Answer;
 use sheet::Refusal;
 ghost use mathlib.Core.Path.{_≡_};
 ghost use Rattle.sheet.specs.Contract.{was, Filtered};
-ghost use Rattle.component_transfer.specs.ComponentTransfer.{entriesAnswer, linearAnswer, functionAnswer, functionsAnswer, answer, transferred};
+ghost use Rattle.component_transfer.specs.ComponentTransfer.{entriesAnswer, linearAnswer, functionAnswer, functionsAnswer, answer, transferred, tested, byteOf};
 
 // What to do with a channel. The entries of a Table or a Discrete stand in a lent pool; Linear takes a slope
 // and an intercept. Identity and an empty table leave the channel alone.
@@ -37,7 +37,8 @@ fn test_linear(slope: f32, intercept: f32) -> Answer
     pool::test(&numbers)
 }
 
-fn test_function(f: TransferFunction, pool: &[f32]) -> Answer
+// Tests 3, 4 and 5 of one channel's function.
+pub fn test_function(f: TransferFunction, pool: &[f32]) -> Answer
     ensures { λ r. ⌜ r ≡ functionAnswer f (now (pool .entry)) ⌝ }
 {
     match f {
@@ -64,44 +65,61 @@ fn together(p: Answer, q: Answer) -> Answer
     q
 }
 
-// Tests 3, 4 and 5, each of all four channels.
-pub fn test(
-    r: TransferFunction,
-    g: TransferFunction,
-    b: TransferFunction,
-    a: TransferFunction,
-    pool: &[f32],
-) -> Answer
-    ensures { λ n. ⌜ n ≡ functionsAnswer r g b a (now (pool .entry)) ⌝ }
+// Of the answers to the four channels' functions, the refusal by the earliest test.
+pub fn of_all(r: Answer, g: Answer, b: Answer, a: Answer) -> Answer
+    ensures { λ n. ⌜ n ≡ functionsAnswer r g b a ⌝ }
 {
-    let first = together(test_function(r, pool), test_function(g, pool));
-    let second = together(test_function(b, pool), test_function(a, pool));
-    together(first, second)
+    together(together(r, g), together(b, a))
 }
 
-// Applies component transfer functions for each channel, in place.
+// Tests 3, 4 and 5, each of all four channels, whose numbers stand in a pool each.
+pub fn test(
+    r: TransferFunction,
+    reds: &[f32],
+    g: TransferFunction,
+    greens: &[f32],
+    b: TransferFunction,
+    blues: &[f32],
+    a: TransferFunction,
+    alphas: &[f32],
+) -> Answer
+    ensures { λ n. ⌜ n ≡ functionsAnswer (tested r reds) (tested g greens) (tested b blues) (tested a alphas) ⌝ }
+{
+    of_all(
+        test_function(r, reds),
+        test_function(g, greens),
+        test_function(b, blues),
+        test_function(a, alphas),
+    )
+}
+
+// Applies component transfer functions for each channel, in place. The numbers of each function stand in the pool
+// that follows it.
 //
 // Pixels should have an unpremultiplied alpha.
 pub fn apply(
     r: TransferFunction,
+    reds: &[f32],
     g: TransferFunction,
+    greens: &[f32],
     b: TransferFunction,
+    blues: &[f32],
     a: TransferFunction,
-    pool: &[f32],
+    alphas: &[f32],
     width: usize,
     height: usize,
     src: &mut [u8],
 ) -> Answer
-    ensures { λ n. ⌜ Filtered (answer r g b a (now (pool .entry)) width height (was src)) n (transferred r g b a (now (pool .entry)) (was src)) src ⌝ }
+    ensures { λ n. ⌜ Filtered (answer (tested r reds) (tested g greens) (tested b blues) (tested a alphas) width height (was src)) n (transferred (byteOf r reds) (byteOf g greens) (byteOf b blues) (byteOf a alphas) (was src)) src ⌝ }
 {
-    let tested = sheet::test1(width, height, src.len());
-    let Answer::Done = tested else {
-        return tested;
+    let sized = sheet::test1(width, height, src.len());
+    let Answer::Done = sized else {
+        return sized;
     };
-    let functions = test(r, g, b, a, pool);
+    let functions = test(r, reds, g, greens, b, blues, a, alphas);
     let Answer::Done = functions else {
         return functions;
     };
-    lookup::transfer_all(r, g, b, a, pool, src);
+    lookup::transfer_all(r, reds, g, greens, b, blues, a, alphas, src);
     Answer::Done
 }

@@ -8,12 +8,12 @@ ghost use lib.ListN.{length, getD};
 ghost use Rattle.sheet.specs.declared.Answer.the-variants.{Done};
 ghost use Rattle.sheet.specs.Pixel.{channel, Channels};
 ghost use Rattle.sheet.specs.Tabulate.{tabulate};
-ghost use Rattle.component_transfer.specs.ComponentTransfer as ComponentTransfer;
+ghost use Rattle.component_transfer.specs.ComponentTransfer.{functionAnswer, transfer, transferred, byteOf};
 
 // A function's byte for every byte.
 fn every_byte(f: TransferFunction, pool: &[f32]) -> [u8; 256]
-    requires { ⌜ ComponentTransfer.functionAnswer f (now pool) ≡ Done ⌝ }
-    ensures { λ r. ⌜ r ≡ tabulate 256 (ComponentTransfer.transfer f (now (pool .entry))) ⌝ }
+    requires { ⌜ functionAnswer f (now pool) ≡ Done ⌝ }
+    ensures { λ r. ⌜ r ≡ tabulate 256 (transfer f (now (pool .entry))) ⌝ }
 {
     let mut bytes = [0u8; 256];
     let mut i: usize = 0;
@@ -51,20 +51,23 @@ fn looked_up(
 // Transfers every pixel by functions that passed the tests.
 pub fn transfer_all(
     r: TransferFunction,
+    reds: &[f32],
     g: TransferFunction,
+    greens: &[f32],
     b: TransferFunction,
+    blues: &[f32],
     a: TransferFunction,
-    pool: &[f32],
+    alphas: &[f32],
     src: &mut [u8],
 )
-    requires { ⌜ ComponentTransfer.functionsAnswer r g b a (now pool) ≡ Done ⌝ }
+    requires { ⌜ (functionAnswer r (now reds) ≡ Done) × (functionAnswer g (now greens) ≡ Done) × (functionAnswer b (now blues) ≡ Done) × (functionAnswer a (now alphas) ≡ Done) ⌝ }
     requires { ⌜ length (now src) % 4 ≡ 0 ⌝ }
-    ensures { λ _. ⌜ now (src .exit) ≡ ComponentTransfer.transferred r g b a (now (pool .entry)) (now (src .entry)) ⌝ }
+    ensures { λ _. ⌜ now (src .exit) ≡ transferred (byteOf r reds) (byteOf g greens) (byteOf b blues) (byteOf a alphas) (now (src .entry)) ⌝ }
 {
-    let red = every_byte(r, pool);
-    let green = every_byte(g, pool);
-    let blue = every_byte(b, pool);
-    let alpha = every_byte(a, pool);
+    let red = every_byte(r, reds);
+    let green = every_byte(g, greens);
+    let blue = every_byte(b, blues);
+    let alpha = every_byte(a, alphas);
     let mut k = 0;
     while k < src.len() {
         let p = sheet::pixel::straight_at(&src[..], k);

@@ -5,8 +5,8 @@ use native.Mathlib.Nat.{mul-assoc}
 use native.Mathlib.Omega.{arith}
 use Rattle.sheet.proofs.Answers.{refusing, first-refusal, next-test, sheets-first}
 use Rattle.sheet.proofs.Contracts.{filtered-refused, filtered-done}
-use Rattle.component_transfer.specs.ComponentTransfer.{functionsAnswer, answer}
-use Rattle.component_transfer.proofs.Passed.{passed}
+use Rattle.component_transfer.specs.ComponentTransfer.{answer}
+use Rattle.component_transfer.proofs.Passed.{each-passes}
 use Rattle.component_transfer.proofs.apply.Statement.{statement}
 use Rattle.component_transfer.proofs.apply.Tie as tie
 
@@ -37,7 +37,7 @@ unfolding answer
 returns-2 c = filtered-refused (next-test (c .before .before .before .before .before .test1 .ensures) (c .before .before .before .enum-told .given .1) (c .before .before .test .ensures)) (refusing (c .before .before .test .result) (c .before .match2 .keys2)) refl
 
 transfer-all-requires : tie.Need-transfer-all-requires
-transfer-all-requires c κs = let first = sheets-first (c .before .before .before .before .before .before .before .before .before .args .width) (c .before .before .before .before .before .before .before .before .before .args .height) _ _ (sym (c .before .before .before .before .before .before .test1 .ensures) ∙ c .before .before .before .before .enum-told .given .1) .0 in (passed {t = functionsAnswer (c .before .before .before .before .before .before .before .before .before .args .r) (c .before .before .before .before .before .before .before .before .before .args .g) (c .before .before .before .before .before .before .before .before .before .args .b) (c .before .before .before .before .before .before .before .before .before .args .a) (c .before .before .before .before .before .before .before .before .before .args .pool .now)} (c .before .before .before .test .ensures) (c .before .enum-told3 .given .1), omega (arith, mul-assoc 4 (c .before .before .before .before .before .before .before .before .before .args .width) (c .before .before .before .before .before .before .before .before .before .args .height)))
+transfer-all-requires c κs = let first = sheets-first (c .before .before .before .before .before .before .before .before .before .before .before .before .args .width) (c .before .before .before .before .before .before .before .before .before .before .before .before .args .height) _ _ (sym (c .before .before .before .before .before .before .test1 .ensures) ∙ c .before .before .before .before .enum-told .given .1) .0 in (each-passes (c .before .before .before .test .ensures) (c .before .enum-told3 .given .1), omega (arith, mul-assoc 4 (c .before .before .before .before .before .before .before .before .before .before .before .before .args .width) (c .before .before .before .before .before .before .before .before .before .before .before .before .args .height)))
 
 same-length : tie.Need-same-length
 same-length c = search needs

@@ -1,6 +1,5 @@
--- The four answers are taken together as the definition does.
+-- The functions' answers are taken together.
 use borrow.Author.Needs.{needs}
-use Rattle.component_transfer.specs.ComponentTransfer.{functionsAnswer}
 use Rattle.component_transfer.proofs.test.Statement.{statement}
 use Rattle.component_transfer.proofs.test.Tie as tie
 
@@ -10,24 +9,17 @@ test-function-requires c κs = search needs
 test-function-requires-2 : tie.Need-test-function-requires-2
 test-function-requires-2 c κs = search needs
 
-together-requires : tie.Need-together-requires
-together-requires c κs = search needs
-
 test-function-requires-3 : tie.Need-test-function-requires-3
 test-function-requires-3 c κs = search needs
 
 test-function-requires-4 : tie.Need-test-function-requires-4
 test-function-requires-4 c κs = search needs
 
-together-requires-2 : tie.Need-together-requires-2
-together-requires-2 c κs = search needs
-
-together-requires-3 : tie.Need-together-requires-3
-together-requires-3 c κs = search needs
+of-all-requires : tie.Need-of-all-requires
+of-all-requires c κs = search needs
 
 returns : tie.Need-returns
-unfolding functionsAnswer
-returns c = cc (c .before .before .before .before .before .before .test-function .ensures, c .before .before .before .before .before .test-function2 .ensures, c .before .before .before .test-function3 .ensures, c .before .before .test-function4 .ensures, c .before .before .before .before .together .ensures, c .before .together2 .ensures, c .together3 .ensures)
+returns c = cc (c .before .before .before .before .test-function .ensures, c .before .before .before .test-function2 .ensures, c .before .before .test-function3 .ensures, c .before .test-function4 .ensures, c .of-all .ensures)
 
 pub test-spec : {M : Type 1} → statement M
 test-spec =
@@ -35,9 +27,7 @@ test-spec =
     (tie.spec
     test-function-requires
     test-function-requires-2
-    together-requires
     test-function-requires-3
     test-function-requires-4
-    together-requires-2
-    together-requires-3
+    of-all-requires
     returns)
