@@ -11,9 +11,10 @@ use Rattle.sheet.specs.Contract.{Sheet}
 use Rattle.morphology.specs.Reads as morphology
 use Rattle.composite.specs.Reads as composite
 use Rattle.color_matrix.specs.Reads as color-matrix
+use Rattle.component_transfer.specs.Reads as component-transfer
 use Rattle.filter.specs.declared.recipe.Kind.{Kind}
 use Rattle.filter.specs.declared.recipe.Work.{Work}
-use Rattle.filter.specs.declared.recipe.Work.the-variants.{Morphology, Arithmetic, ColorMatrix}
+use Rattle.filter.specs.declared.recipe.Work.the-variants.{Morphology, Arithmetic, ColorMatrix, ComponentTransfer}
 use Rattle.filter.specs.declared.recipe.Step.{Step}
 use Rattle.filter.specs.declared.recipe.Recipe.{Recipe}
 use Rattle.filter.specs.Recipe.{stepOf}
@@ -24,6 +25,7 @@ abbrev pub Reads : Work → List Float → ℕ → ℕ → ℕ → ℕ → ℕ �
 Reads (Morphology a op rx ry) pool w h k s j = (s ≡ a) × morphology.Reads rx ry w h k j
 Reads (Arithmetic a b k1 k2 k3 k4) pool w h k s j = ((s ≡ a) ⊎ (s ≡ b)) × composite.Reads k j
 Reads (ColorMatrix a m) pool w h k s j = (s ≡ a) × color-matrix.Reads k j
+Reads (ComponentTransfer i r g b a) pool w h k s j = (s ≡ i) × component-transfer.Reads k j
 
 -- byte k of what is worked out reads a byte that reaches source byte j, where R s m j says that byte m of slot s does
 abbrev pub Through : Work → List Float → ℕ → ℕ → (ℕ → ℕ → ℕ → Type 0) → ℕ → ℕ → Type 0

@@ -14,10 +14,11 @@ use Rattle.morphology.specs.declared.operator.MorphologyOperator.the-variants.{
 use Rattle.morphology.specs.Morphology.{radiiAnswer}
 use Rattle.composite.specs.Composite.{factorsAnswer}
 use Rattle.color_matrix.specs.ColorMatrix.{matrixAnswer}
+use Rattle.component_transfer.specs.ComponentTransfer.{functionAnswer, functionsAnswer}
 use Rattle.filter.specs.declared.recipe.Kind.{Kind}
 use Rattle.filter.specs.declared.recipe.Kind.the-variants as kind
 use Rattle.filter.specs.declared.recipe.Work.{Work}
-use Rattle.filter.specs.declared.recipe.Work.the-variants.{Morphology, Arithmetic, ColorMatrix}
+use Rattle.filter.specs.declared.recipe.Work.the-variants.{Morphology, Arithmetic, ColorMatrix, ComponentTransfer}
 use Rattle.filter.specs.declared.recipe.Inputs.{Inputs}
 use Rattle.filter.specs.declared.recipe.Inputs.the-variants.{None, One, Two}
 use Rattle.filter.specs.declared.recipe.Step.{Step}
@@ -70,18 +71,21 @@ abbrev pub inputsOf : Work → Inputs
 inputsOf (Morphology a op rx ry) = One a
 inputsOf (Arithmetic a b k1 k2 k3 k4) = Two a b
 inputsOf (ColorMatrix a m) = One a
+inputsOf (ComponentTransfer s r g b a) = One s
 
 -- the kind of what is made, from what the slots that are read hold
 abbrev pub workMakes : Work → Contents → Content
 workMakes (Morphology a op rx ry) x = ofPremultiplied (contentIn a x) Premultiplied
 workMakes (Arithmetic a b k1 k2 k3 k4) x = ofPremultiplied (contentIn a x) (ofPremultiplied (contentIn b x) Premultiplied)
 workMakes (ColorMatrix a m) x = ofStraight (contentIn a x) Straight
+workMakes (ComponentTransfer s r g b a) x = ofStraight (contentIn s x) Straight
 
 -- tests 3, 4 and 5, as in the single call
 abbrev pub workAnswer : Work → List Float → Answer
 workAnswer (Morphology a op rx ry) pool = radiiAnswer rx ry
 workAnswer (Arithmetic a b k1 k2 k3 k4) pool = factorsAnswer k1 k2 k3 k4
 workAnswer (ColorMatrix a m) pool = matrixAnswer m pool
+workAnswer (ComponentTransfer s r g b a) pool = functionsAnswer (functionAnswer r pool) (functionAnswer g pool) (functionAnswer b pool) (functionAnswer a pool)
 
 -- ---- the tests of a step
 -- an input is not the output, and is slot 0 or was written

@@ -16,9 +16,10 @@ use Rattle.morphology.specs.Morphology.{morphed}
 use Rattle.composite.specs.Composite.{composed}
 use Rattle.composite.specs.Arithmetic.{factors}
 use Rattle.color_matrix.specs.ColorMatrix.{filtered}
+use Rattle.component_transfer.specs.ComponentTransfer.{transfer, transferred}
 use Rattle.filter.specs.declared.recipe.Kind.{Kind}
 use Rattle.filter.specs.declared.recipe.Work.{Work}
-use Rattle.filter.specs.declared.recipe.Work.the-variants.{Morphology, Arithmetic, ColorMatrix}
+use Rattle.filter.specs.declared.recipe.Work.the-variants.{Morphology, Arithmetic, ColorMatrix, ComponentTransfer}
 use Rattle.filter.specs.declared.recipe.Step.{Step}
 use Rattle.filter.specs.declared.recipe.Recipe.{Recipe}
 use Rattle.filter.specs.Recipe.{stepOf, runAnswer}
@@ -40,6 +41,7 @@ abbrev pub made : Work → List Float → ℕ → ℕ → (ℕ → List ℕ) →
 made (Morphology a op rx ry) pool w h get = morphed op rx ry w h (get a)
 made (Arithmetic a b k1 k2 k3 k4) pool w h get = composed (factors k1 k2 k3 k4) (get a) (get b)
 made (ColorMatrix a m) pool w h get = filtered m pool (get a)
+made (ComponentTransfer s r g b a) pool w h get = transferred (transfer r pool) (transfer g pool) (transfer b pool) (transfer a pool) (get s)
 
 -- what a step does to the slots
 unfoldable pub act : List Float → ℕ → ℕ → Step → Slots → Slots

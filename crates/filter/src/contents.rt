@@ -132,6 +132,9 @@ pub fn work_makes(work: Work, contents: Contents) -> Content
             of_premultiplied(content_in(b, contents), Content::Premultiplied),
         ),
         Work::ColorMatrix(a, _) => of_straight(content_in(a, contents), Content::Straight),
+        Work::ComponentTransfer(a, _, _, _, _) => {
+            of_straight(content_in(a, contents), Content::Straight)
+        }
     }
 }
 

@@ -1,5 +1,6 @@
 // Recipes: values that say which steps are run on which slots.
 use color_matrix::ColorMatrix;
+use component_transfer::TransferFunction;
 use morphology::MorphologyOperator;
 ghost use mathlib.Core.Path.{_≡_};
 ghost use Rattle.filter.specs.Recipe.{inputsOf};
@@ -15,6 +16,7 @@ pub enum Work {
     Morphology(u8, MorphologyOperator, f32, f32),
     Arithmetic(u8, u8, f32, f32, f32, f32),
     ColorMatrix(u8, ColorMatrix),
+    ComponentTransfer(u8, TransferFunction, TransferFunction, TransferFunction, TransferFunction),
 }
 
 // The slots that a step's work reads.
@@ -31,6 +33,7 @@ pub fn inputs_of(work: Work) -> Inputs
         Work::Morphology(a, _, _, _) => Inputs::One(a),
         Work::Arithmetic(a, b, _, _, _, _) => Inputs::Two(a, b),
         Work::ColorMatrix(a, _) => Inputs::One(a),
+        Work::ComponentTransfer(a, _, _, _, _) => Inputs::One(a),
     }
 }
 

@@ -3,6 +3,7 @@ use crate::recipe::Recipe;
 use crate::recipe::Step;
 use crate::recipe::Work;
 use color_matrix::ColorMatrix;
+use component_transfer::TransferFunction;
 use morphology::MorphologyOperator;
 ghost use mathlib.Core.Path.{_≡_};
 ghost use mathlib.Core.List.{[], _∷_};
@@ -15,6 +16,7 @@ ghost use Rattle.morphology.specs.Morphology.{radiiAnswer, morphed};
 ghost use Rattle.composite.specs.Composite.{factorsAnswer, composed};
 ghost use Rattle.composite.specs.Arithmetic.{factors};
 ghost use Rattle.color_matrix.specs.ColorMatrix.{matrixAnswer, filtered};
+ghost use Rattle.component_transfer.specs.ComponentTransfer.{functionAnswer, functionsAnswer, transferred, byteOf};
 ghost use Rattle.filter.specs.Recipe.{workAnswer, stepOf};
 ghost use Rattle.filter.specs.Slots.{slots, slotOf, made, act, acts};
 ghost use Rattle.filter.specs.Engine.{Fits, Legal};
@@ -86,6 +88,25 @@ fn matrix_into(
     color_matrix::apply(matrix, pool, width, height, out);
 }
 
+fn transfer_into(
+    r: TransferFunction,
+    g: TransferFunction,
+    b: TransferFunction,
+    a: TransferFunction,
+    pool: &[f32],
+    width: usize,
+    height: usize,
+    src: &[u8],
+    out: &mut [u8],
+)
+    requires { ⌜ sheetsAnswer width height (length (now src) ∷ length (now out) ∷ []) ≡ Done ⌝ }
+    requires { ⌜ functionsAnswer (functionAnswer r (now pool)) (functionAnswer g (now pool)) (functionAnswer b (now pool)) (functionAnswer a (now pool)) ≡ Done ⌝ }
+    ensures { λ _. ⌜ now (out .exit) ≡ transferred (byteOf r pool) (byteOf g pool) (byteOf b pool) (byteOf a pool) (now (src .entry)) ⌝ }
+{
+    sheet::copy(src, out);
+    component_transfer::apply(r, pool, g, pool, b, pool, a, pool, width, height, out);
+}
+
 // Writes to `out` what the work makes of the slots a, b, c and d.
 fn work_into<'a>(
     work: Work,
@@ -117,6 +138,10 @@ fn work_into<'a>(
         Work::ColorMatrix(s, matrix) => {
             let src = pick(s, a, b, c, d);
             matrix_into(matrix, pool, width, height, src, out)
+        }
+        Work::ComponentTransfer(s, red, green, blue, alpha) => {
+            let src = pick(s, a, b, c, d);
+            transfer_into(red, green, blue, alpha, pool, width, height, src, out)
         }
     }
 }

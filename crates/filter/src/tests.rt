@@ -29,6 +29,9 @@ fn work_answer(work: Work, pool: &[f32]) -> Answer
         Work::Morphology(_, _, rx, ry) => morphology::test(rx, ry),
         Work::Arithmetic(_, _, k1, k2, k3, k4) => composite::test(k1, k2, k3, k4),
         Work::ColorMatrix(_, matrix) => color_matrix::test(matrix, pool),
+        Work::ComponentTransfer(_, r, g, b, a) => {
+            component_transfer::test(r, pool, g, pool, b, pool, a, pool)
+        }
     }
 }
 

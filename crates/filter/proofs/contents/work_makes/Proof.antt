@@ -36,6 +36,15 @@ content-in-requires-4 c κs = search needs
 of-straight-requires : tie.Need-of-straight-requires
 of-straight-requires c κs = search needs
 
+enum-known-work-4 : tie.Need-enum-known-work-4
+enum-known-work-4 c = search needs
+
+content-in-requires-5 : tie.Need-content-in-requires-5
+content-in-requires-5 c κs = search needs
+
+of-straight-requires-2 : tie.Need-of-straight-requires-2
+of-straight-requires-2 c κs = search needs
+
 returns : tie.Need-returns
 returns c = rw (c .before .before .before .work .given .1) (cc (c .of-premultiplied .ensures, c .before .content-in .ensures))
 
@@ -44,6 +53,9 @@ returns-2 c = rw (c .before .before .before .before .before .work2 .given .1) (c
 
 returns-3 : tie.Need-returns-3
 returns-3 c = rw (c .before .before .before .work3 .given .1) (cc (c .of-straight .ensures, c .before .content-in4 .ensures))
+
+returns-4 : tie.Need-returns-4
+returns-4 c = rw (c .before .before .before .work4 .given .1) (cc (c .of-straight2 .ensures, c .before .content-in5 .ensures))
 
 pub work-makes-spec : {M : Type 1} → statement M
 work-makes-spec =
@@ -60,6 +72,10 @@ work-makes-spec =
     enum-known-work-3
     content-in-requires-4
     of-straight-requires
+    enum-known-work-4
+    content-in-requires-5
+    of-straight-requires-2
     returns
     returns-2
-    returns-3)
+    returns-3
+    returns-4)
