@@ -3,7 +3,7 @@ use sheet::Answer;
 
 pub enum Called {
     Answered(Answer),
-    // An enum's number that names no case: such a call is refused at the C boundary alone, and is not made here.
+    // No value of the enum says it, as a number that names no case: refused at the C boundary alone, and not called here.
     Unnamed,
     // Not as many parameters or sheets as the call takes.
     Misread,

@@ -124,20 +124,16 @@ pub fn has(case: Case, parameters: usize, sheets: usize) -> bool {
 
 // Parameter i as it stands.
 pub fn parameter(list: &[u8], case: Case, i: usize) -> u32
-    requires { ⌜ i < 256 ⌝ }
+    requires { ⌜ i < 4096 ⌝ }
 {
-    let at = case.parameters;
-    if list.len() < at {
-        return 0;
-    }
-    reader::word_at(&list[at..], 4 * i)
+    reader::nth_word(list, case.parameters, i)
 }
 
 // Parameter i, the bits of an `f32`.
 pub fn float(list: &[u8], case: Case, i: usize) -> f32
-    requires { ⌜ i < 256 ⌝ }
+    requires { ⌜ i < 4096 ⌝ }
 {
-    reader::float(parameter(list, case, i))
+    reader::nth_float(list, case.parameters, i)
 }
 
 // Whether n bytes stand at `at`.

@@ -2,12 +2,11 @@
 use crate::called::Called;
 use crate::cases;
 use crate::cases::Case;
+use crate::reader;
 use color_matrix::ColorMatrix;
 use pool::Numbers;
-ghost use Prim.Native.Nat.{_≤_};
-ghost use lib.ListN.{length};
 
-// The most numbers that a Matrix has in a list.
+// No fewer than the parameters of a Matrix in the list.
 const POOL: usize = 64;
 
 pub fn call(list: &[u8], case: Case, src: &mut [u8]) -> Called {
@@ -28,39 +27,28 @@ pub fn call(list: &[u8], case: Case, src: &mut [u8]) -> Called {
     }
 }
 
+// The pool is all of the parameters, the kind first.
 fn matrix(list: &[u8], case: Case, src: &mut [u8]) -> Called {
     let count = case.parameter_count;
     if count == 0 {
         return Called::Misread;
     }
-    let length = count - 1;
-    if POOL < length {
+    if POOL < count {
         return Called::Misread;
     }
     let mut pool = [0.0f32; POOL];
-    let numbers = &mut pool[..length];
-    floats(list, case, numbers);
+    let numbers = &mut pool[..count];
+    reader::floats(list, case.parameters, numbers);
     apply(
         case,
         count,
         ColorMatrix::Matrix(Numbers {
-            start: 0,
-            length: length,
+            start: 1,
+            length: count - 1,
         }),
         numbers,
         src,
     )
-}
-
-// The floats after the kind.
-fn floats(list: &[u8], case: Case, numbers: &mut [f32])
-    requires { ⌜ length (now numbers) ≤ 64 ⌝ }
-{
-    let mut i = 0;
-    while i < numbers.len() {
-        numbers[i] = cases::float(list, case, i + 1);
-        i += 1;
-    }
 }
 
 // Applies the matrix where the case has so many parameters.

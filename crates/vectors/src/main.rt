@@ -2,6 +2,7 @@
 mod called;
 mod cases;
 mod color_matrix_cases;
+mod component_transfer_cases;
 mod composite_cases;
 mod floats_cases;
 mod morphology_cases;
@@ -17,6 +18,7 @@ fn main() {
     replay::replay(b"morphology", b"morphology.bin");
     replay::replay(b"color_matrix", b"color_matrix.bin");
     replay::replay(b"composite", b"composite.bin");
+    replay::replay(b"component_transfer", b"component_transfer.bin");
     recipes_cases::replay();
     reach_example::show();
 }

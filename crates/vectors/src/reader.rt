@@ -1,5 +1,6 @@
 // The bytes of a file, through a lent buffer of any size, and the numbers in them, the lowest byte first.
-ghost use Prim.Native.Nat.{_<_};
+ghost use Prim.Native.Nat.{_<_, _≤_};
+ghost use lib.ListN.{length};
 
 // A place in the buffer: the next byte stands at `at`, and what was read ends at `end`.
 pub struct Place {
@@ -74,6 +75,34 @@ pub fn word_at(s: &[u8], at: usize) -> u32 {
         + 256 * byte_at(s, at, 1)
         + 65536 * byte_at(s, at, 2)
         + 16777216 * byte_at(s, at, 3)
+}
+
+// Word i of those from `at` on, which may be anywhere.
+pub fn nth_word(s: &[u8], at: usize, i: usize) -> u32
+    requires { ⌜ i < 4096 ⌝ }
+{
+    if s.len() < at {
+        return 0;
+    }
+    word_at(&s[at..], 4 * i)
+}
+
+// Word i of those from `at` on, the bits of an `f32`.
+pub fn nth_float(s: &[u8], at: usize, i: usize) -> f32
+    requires { ⌜ i < 4096 ⌝ }
+{
+    float(nth_word(s, at, i))
+}
+
+// Fills `numbers` with the words from `at` on, the bits of an `f32` each.
+pub fn floats(s: &[u8], at: usize, numbers: &mut [f32])
+    requires { ⌜ length (now numbers) ≤ 4096 ⌝ }
+{
+    let mut i = 0;
+    while i < numbers.len() {
+        numbers[i] = nth_float(s, at, i);
+        i += 1;
+    }
 }
 
 // The byte at `at + i`, or 0 past the end.

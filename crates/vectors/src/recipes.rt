@@ -1,5 +1,5 @@
 // A stored recipe, in little-endian u32 words: width, height, kind (0 straight, 1 premultiplied), P, the P numbers of the pool,
-// count, S, and S steps of nine words: code, output, two inputs and five parameters; then five times a sheet's length with its
+// count, S, and S steps of sixteen words: code, output, two inputs and twelve parameters; then five times a sheet's length with its
 // bytes, for slots 0 to 3 and scratch; then the answer's number and step, 1 where the result reaches slot 0 and else 0, and the
 // five sheets' bytes after the run. Bytes are padded to a whole number of words.
 use crate::cases;
@@ -7,6 +7,7 @@ use crate::cases::Span;
 use crate::cases::Stored;
 use crate::reader;
 use color_matrix::ColorMatrix;
+use component_transfer::TransferFunction;
 use filter::Kind;
 use filter::Recipe;
 use filter::Step;
@@ -14,7 +15,6 @@ use filter::Work;
 use morphology::MorphologyOperator;
 use pool::Numbers;
 ghost use Prim.Native.Nat.{_+_, _<_, _≤_};
-ghost use lib.ListN.{length};
 
 // A run: what stands in its words, and where its pool and steps stand.
 pub struct Run {
@@ -54,7 +54,7 @@ pub fn read(list: &[u8], at: usize) -> Run
     let pool_length = cases::count_at(list, at + 12);
     let counts = at + 16 + 4 * pool_length;
     let step_count = cases::count_at(list, counts + 4);
-    let before = sheets_at(list, counts + 8 + 36 * step_count);
+    let before = sheets_at(list, counts + 8 + 64 * step_count);
     let answer = before.scratch.end;
     let number = reader::word_at(list, answer);
     let step = reader::word_at(list, answer + 4);
@@ -86,7 +86,7 @@ pub fn read(list: &[u8], at: usize) -> Run
 }
 
 fn sheets_at(list: &[u8], at: usize) -> Sheets
-    requires { ⌜ at < 274877906944 ⌝ }
+    requires { ⌜ at < 549755813888 ⌝ }
     ensures { λ r. ⌜ (at ≤ r .scratch .end) × (r .scratch .end ≤ at + 21474836520) × (r .source .length < 4294967296) × (r .slot1 .length < 4294967296) × (r .slot2 .length < 4294967296) × (r .slot3 .length < 4294967296) × (r .scratch .length < 4294967296) ⌝ }
 {
     let source = cases::span_at(list, at, true);
@@ -111,40 +111,12 @@ fn stored(before: Span, after: usize) -> Stored {
     }
 }
 
-// Word i after `at`, which may be anywhere.
-fn word(list: &[u8], at: usize, i: usize) -> u32
-    requires { ⌜ i < 4096 ⌝ }
-{
-    if list.len() < at {
-        return 0;
-    }
-    reader::word_at(&list[at..], 4 * i)
-}
-
-fn float(list: &[u8], at: usize, i: usize) -> f32
-    requires { ⌜ i < 4096 ⌝ }
-{
-    reader::float(word(list, at, i))
-}
-
 // A slot's number; there is none over 255.
 fn slot(list: &[u8], at: usize, i: usize) -> u8
     requires { ⌜ i < 4096 ⌝ }
 {
-    let n = word(list, at, i);
+    let n = reader::nth_word(list, at, i);
     if n < 256 { n as u8 } else { 255 }
-}
-
-// The numbers of the run's pool, as many as `numbers` holds.
-pub fn pool(list: &[u8], run: Run, numbers: &mut [f32])
-    requires { ⌜ length (now numbers) ≤ 512 ⌝ }
-{
-    let at = run.pool;
-    let mut i = 0;
-    while i < numbers.len() {
-        numbers[i] = float(list, at, i);
-        i += 1;
-    }
 }
 
 pub fn kind(run: Run) -> Kind {
@@ -174,7 +146,7 @@ fn step_of(list: &[u8], run: Run, i: usize) -> Step
     requires { ⌜ i < 16 ⌝ }
 {
     if i < run.step_count {
-        return step_at(list, run.steps, 9 * i);
+        return step_at(list, run.steps, 16 * i);
     }
     no_step()
 }
@@ -188,7 +160,7 @@ fn no_step() -> Step {
 fn step_at(list: &[u8], at: usize, i: usize) -> Step
     requires { ⌜ i < 1024 ⌝ }
 {
-    let code = word(list, at, i);
+    let code = reader::nth_word(list, at, i);
     let output = slot(list, at, i + 1);
     let input = slot(list, at, i + 2);
     if code == 1 {
@@ -197,6 +169,8 @@ fn step_at(list: &[u8], at: usize, i: usize) -> Step
         color_matrix_at(list, at, i + 4, input, output)
     } else if code == 3 {
         arithmetic_at(list, at, i + 3, input, output)
+    } else if code == 4 {
+        component_transfer_at(list, at, i + 4, input, output)
     } else {
         no_step()
     }
@@ -205,9 +179,9 @@ fn step_at(list: &[u8], at: usize, i: usize) -> Step
 fn morphology_at(list: &[u8], at: usize, i: usize, input: u8, output: u8) -> Step
     requires { ⌜ i < 2048 ⌝ }
 {
-    let operator = word(list, at, i);
-    let rx = float(list, at, i + 1);
-    let ry = float(list, at, i + 2);
+    let operator = reader::nth_word(list, at, i);
+    let rx = reader::nth_float(list, at, i + 1);
+    let ry = reader::nth_float(list, at, i + 2);
     if operator == 0 {
         let work = Work::Morphology(input, MorphologyOperator::Dilate, rx, ry);
         Step {
@@ -228,23 +202,22 @@ fn morphology_at(list: &[u8], at: usize, i: usize, input: u8, output: u8) -> Ste
 fn color_matrix_at(list: &[u8], at: usize, i: usize, input: u8, output: u8) -> Step
     requires { ⌜ i < 2048 ⌝ }
 {
-    let kind = word(list, at, i);
+    let kind = reader::nth_word(list, at, i);
     if kind == 0 {
-        let start = word(list, at, i + 1) as usize;
-        let length = word(list, at, i + 2) as usize;
         matrix_step(
             input,
-            ColorMatrix::Matrix(Numbers {
-                start: start,
-                length: length,
-            }),
+            ColorMatrix::Matrix(numbers_at(list, at, i + 1)),
             output,
         )
     } else if kind == 1 {
-        matrix_step(input, ColorMatrix::Saturate(float(list, at, i + 1)), output)
+        matrix_step(
+            input,
+            ColorMatrix::Saturate(reader::nth_float(list, at, i + 1)),
+            output,
+        )
     } else if kind == 2 {
-        let cosine = float(list, at, i + 1);
-        let sine = float(list, at, i + 2);
+        let cosine = reader::nth_float(list, at, i + 1);
+        let sine = reader::nth_float(list, at, i + 2);
         matrix_step(input, ColorMatrix::HueRotate(cosine, sine), output)
     } else if kind == 3 {
         matrix_step(input, ColorMatrix::LuminanceToAlpha, output)
@@ -265,12 +238,54 @@ fn arithmetic_at(list: &[u8], at: usize, i: usize, input: u8, output: u8) -> Ste
     requires { ⌜ i < 2048 ⌝ }
 {
     let second = slot(list, at, i);
-    let k1 = float(list, at, i + 1);
-    let k2 = float(list, at, i + 2);
-    let k3 = float(list, at, i + 3);
-    let k4 = float(list, at, i + 4);
+    let k1 = reader::nth_float(list, at, i + 1);
+    let k2 = reader::nth_float(list, at, i + 2);
+    let k3 = reader::nth_float(list, at, i + 3);
+    let k4 = reader::nth_float(list, at, i + 4);
     Step {
         work: Work::Arithmetic(input, second, k1, k2, k3, k4),
         output: output,
+    }
+}
+
+// A kind and two words for each of red, green, blue and alpha.
+fn component_transfer_at(list: &[u8], at: usize, i: usize, input: u8, output: u8) -> Step
+    requires { ⌜ i < 2048 ⌝ }
+{
+    let r = transfer_function_at(list, at, i);
+    let g = transfer_function_at(list, at, i + 3);
+    let b = transfer_function_at(list, at, i + 6);
+    let a = transfer_function_at(list, at, i + 9);
+    Step {
+        work: Work::ComponentTransfer(input, r, g, b, a),
+        output: output,
+    }
+}
+
+// What names no kind is taken as Identity.
+fn transfer_function_at(list: &[u8], at: usize, i: usize) -> TransferFunction
+    requires { ⌜ i < 2064 ⌝ }
+{
+    let kind = reader::nth_word(list, at, i);
+    if kind == 1 {
+        TransferFunction::Table(numbers_at(list, at, i + 1))
+    } else if kind == 2 {
+        TransferFunction::Discrete(numbers_at(list, at, i + 1))
+    } else if kind == 3 {
+        let slope = reader::nth_float(list, at, i + 1);
+        let intercept = reader::nth_float(list, at, i + 2);
+        TransferFunction::Linear(slope, intercept)
+    } else {
+        TransferFunction::Identity
+    }
+}
+
+// A range of the pool.
+fn numbers_at(list: &[u8], at: usize, i: usize) -> Numbers
+    requires { ⌜ i < 4095 ⌝ }
+{
+    Numbers {
+        start: reader::nth_word(list, at, i) as usize,
+        length: reader::nth_word(list, at, i + 1) as usize,
     }
 }

@@ -1,5 +1,6 @@
 // Runs the stored list of recipes, and compares each answer, the yes or no on slot 0 and every lent byte with the stored ones.
 use crate::cases;
+use crate::reader;
 use crate::recipes;
 use crate::recipes::Run;
 use crate::tally;
@@ -8,6 +9,9 @@ use filter::Recipe;
 use sheet::Answer;
 ghost use Prim.Native.Nat.{_≤_};
 ghost use lib.ListN.{length};
+
+// More than the longest list, which the oracle keeps within 250,000 bytes.
+const LIST: usize = 262144;
 
 // The most bytes of a sheet, and the most numbers of a pool, in the list.
 const SHEET: usize = 256;
@@ -22,16 +26,16 @@ pub fn replay() {
         os::fail(path);
         return;
     }
-    // The oracle writes no longer list than 250,000 bytes.
-    let mut list = [0u8; 262144];
+    let mut list = [0u8; LIST];
     let end = io::read_full(fd, &mut list);
     libc::close(fd);
-    tally::print(b"recipes", whole(run(&list[..end]), end));
+    let tally = whole(run(&list[..end]), end);
+    tally::print(b"recipes", tally);
 }
 
 // A list that fills the buffer may go on: that counts as a difference.
 fn whole(tally: Tally, end: usize) -> Tally {
-    if end < 262144 {
+    if end < LIST {
         tally
     } else {
         tally::counted(tally, false)
@@ -59,7 +63,7 @@ fn agrees(list: &[u8], run: Run) -> bool {
     }
     let mut pool = [0.0f32; POOL];
     let numbers = &mut pool[..length];
-    recipes::pool(list, run, numbers);
+    reader::floats(list, run.pool, numbers);
     on_sheets(list, run, recipes::recipe(list, run), numbers)
 }
 

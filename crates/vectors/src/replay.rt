@@ -3,6 +3,7 @@ use crate::called::Called;
 use crate::cases;
 use crate::cases::Case;
 use crate::color_matrix_cases;
+use crate::component_transfer_cases;
 use crate::composite_cases;
 use crate::morphology_cases;
 use crate::tally;
@@ -113,6 +114,8 @@ fn called(list: &[u8], case: Case, a: &mut [u8], b: &mut [u8], c: &mut [u8]) -> 
         color_matrix_cases::call(list, case, a)
     } else if case.code == 3 {
         composite_cases::call(list, case, a, b, c)
+    } else if case.code == 4 {
+        component_transfer_cases::call(list, case, a)
     } else {
         Called::Misread
     }

@@ -1,5 +1,5 @@
-// How many cases were run, how many of the answers differ from the stored ones, and how many cases were not run because an
-// enum's number names no case: those are refused at the C boundary alone.
+// How many cases were run, how many of the answers differ from the stored ones, and how many cases were not run because no
+// value of the enum says them: those are refused at the C boundary alone.
 use libc::STDOUT_FILENO;
 
 pub struct Tally {
@@ -53,13 +53,10 @@ pub fn print(name: &[u8], tally: Tally) {
     io::write_all(STDOUT_FILENO, b" differences\n");
 }
 
-// Prints `NAME: N cases not run, whose number names no case of an enum`.
+// Prints `NAME: N cases not run, which only C can say`.
 pub fn print_unnamed(name: &[u8], tally: Tally) {
     io::write_all(STDOUT_FILENO, name);
     io::write_all(STDOUT_FILENO, b": ");
     io::print_decimal(STDOUT_FILENO, tally.unnamed);
-    io::write_all(
-        STDOUT_FILENO,
-        b" cases not run, whose number names no case of an enum\n",
-    );
+    io::write_all(STDOUT_FILENO, b" cases not run, which only C can say\n");
 }

@@ -1,11 +1,12 @@
 //! Recipes that are awkward on purpose: chains and diamonds, slots read twice and written again, and
 //! recipes with one or two faults, so that the order of the tests shows.
 
-use super::{Kind, Recipe, STEPS, Step, Work};
+use super::{Function, Kind, Recipe, STEPS, Step, Work};
 use crate::case::Case;
 use crate::nasty::{self, Limits};
 use crate::primitives;
 use crate::rng::Rng;
+use crate::table::WIDE;
 
 const LIMITS: Limits = Limits {
     side: 5,
@@ -107,6 +108,9 @@ fn draw_work(rng: &mut Rng, recipe: &mut Recipe) -> Work {
             ]))
         }
         (Kind::Straight, true) => draw_matrix(rng, recipe, wild),
+        (Kind::Straight, false) if !rng.one_in(3) => {
+            Work::Transfer([(); 4].map(|_| draw_function(rng, recipe, wild)))
+        }
         (Kind::Straight, false) => {
             let angle = std::f32::consts::TAU * rng.unit();
             let hue = Work::HueRotate(angle.cos(), angle.sin());
@@ -145,6 +149,30 @@ fn draw_matrix(rng: &mut Rng, recipe: &mut Recipe, wild: bool) -> Work {
         recipe.pool.push(rng.unit() / 8.0);
     }
     Work::Matrix(start, 20)
+}
+
+/// A transfer function; the numbers of a table go to the pool.
+fn draw_function(rng: &mut Rng, recipe: &mut Recipe, wild: bool) -> Function {
+    let count = match rng.below(32) {
+        0 if recipe.pool.len() < 200 => 256,
+        _ => rng.pick(&[0, 1, 2, 2, 3, 3, 4, 6]),
+    };
+    let start = recipe.pool.len() as u32;
+    let number = |rng: &mut Rng| match wild {
+        true => nasty::float(rng, WIDE),
+        false => 1.4 * rng.unit() - 0.2,
+    };
+    match rng.below(5) {
+        0 => Function::Identity,
+        1 | 2 => Function::Linear(number(rng), number(rng)),
+        kind => {
+            recipe.pool.extend((0..count).map(|_| number(rng)));
+            match kind {
+                3 => Function::Table(start, count),
+                _ => Function::Discrete(start, count),
+            }
+        }
+    }
 }
 
 fn drawn(rng: &mut Rng, name: &str) -> Case {
@@ -215,7 +243,7 @@ fn spoil(rng: &mut Rng, recipe: &mut Recipe, number: u8, at: usize) {
     }
 }
 
-/// A range past the pool's end, or not of 20 numbers.
+/// A range past the pool's end, or a matrix not of 20 numbers, or a table of more than 256.
 fn spoil_range(rng: &mut Rng, recipe: &mut Recipe, at: usize) {
     let length = recipe.pool.len() as u32;
     let (start, numbers) = rng.pick(&[
@@ -231,6 +259,23 @@ fn spoil_range(rng: &mut Rng, recipe: &mut Recipe, at: usize) {
         (0, u32::MAX),
     ]);
     let step = &mut recipe.steps[at];
+    if let Work::Transfer(functions) = &mut step.work {
+        let (start, numbers) = rng.pick(&[
+            (length, 1),
+            (length + 1, 0),
+            (0, length + 1),
+            (0, 257),
+            (u32::MAX, u32::MAX),
+        ]);
+        functions[rng.below(4) as usize] = match rng.one_in(2) {
+            true => Function::Table(start, numbers),
+            false => Function::Discrete(start, numbers),
+        };
+        if numbers == 257 {
+            recipe.pool.resize(257, 0.5);
+        }
+        return;
+    }
     step.work = Work::Matrix(start, numbers);
     step.inputs.truncate(1);
 }
@@ -257,6 +302,21 @@ fn spoil_float(rng: &mut Rng, recipe: &mut Recipe, at: usize, values: &[f32]) {
         },
         work @ (Work::Saturate(_) | Work::LuminanceToAlpha) => *work = Work::Saturate(value),
         Work::Arithmetic(k) => k[rng.below(4) as usize] = value,
+        Work::Transfer(functions) => {
+            let function = &mut functions[rng.below(4) as usize];
+            match *function {
+                Function::Table(start, length) | Function::Discrete(start, length)
+                    if length > 0 =>
+                {
+                    let place = start.wrapping_add(rng.below(length));
+                    if let Some(number) = recipe.pool.get_mut(place as usize) {
+                        *number = value;
+                    }
+                }
+                Function::Linear(slope, _) => *function = Function::Linear(slope, value),
+                _ => *function = Function::Linear(value, 0.0),
+            }
+        }
     }
 }
 

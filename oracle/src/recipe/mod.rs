@@ -35,6 +35,17 @@ pub enum Work {
     HueRotate(f32, f32),
     LuminanceToAlpha,
     Arithmetic([f32; 4]),
+    /// A function for each of red, green, blue and alpha.
+    Transfer([Function; 4]),
+}
+
+/// A transfer function; tables are ranges of the pool, a start and a length.
+#[derive(Clone, Copy, Debug)]
+pub enum Function {
+    Identity,
+    Table(u32, u32),
+    Discrete(u32, u32),
+    Linear(f32, f32),
 }
 
 /// The slots have any numbers.
@@ -66,6 +77,7 @@ impl Work {
         let name = match self {
             Work::Morphology(..) => "morphology",
             Work::Arithmetic(_) => "composite",
+            Work::Transfer(_) => "component_transfer",
             _ => "color_matrix",
         };
         let mut all = primitives::ALL.iter();
@@ -89,8 +101,7 @@ impl Work {
                 vec![Param::Choice(op), Param::float(rx), Param::float(ry)]
             }
             Work::Matrix(start, length) => {
-                let end = (start as usize).checked_add(length as usize)?;
-                let numbers = pool.get(start as usize..end)?;
+                let numbers = range(pool, start, length)?;
                 vec![Param::Choice(0), Param::Rest(Param::floats(numbers))]
             }
             Work::Saturate(v) => vec![Param::Choice(1), Param::float(v)],
@@ -99,8 +110,35 @@ impl Work {
             }
             Work::LuminanceToAlpha => vec![Param::Choice(3)],
             Work::Arithmetic(k) => k.map(Param::float).into(),
+            Work::Transfer(functions) => {
+                let mut params = vec![];
+                for function in functions {
+                    params.extend(function.params(pool)?);
+                }
+                params
+            }
         })
     }
+}
+
+impl Function {
+    /// The kind and the numbers; None where a range leaves the pool.
+    fn params(&self, pool: &[f32]) -> Option<[Param; 2]> {
+        let list = |numbers: &[f32]| Param::List(Param::floats(numbers));
+        Some(match *self {
+            Function::Identity => [Param::Choice(0), list(&[])],
+            Function::Table(start, length) => [Param::Choice(1), list(range(pool, start, length)?)],
+            Function::Discrete(start, length) => {
+                [Param::Choice(2), list(range(pool, start, length)?)]
+            }
+            Function::Linear(slope, intercept) => [Param::Choice(3), list(&[slope, intercept])],
+        })
+    }
+}
+
+fn range(pool: &[f32], start: u32, length: u32) -> Option<&[f32]> {
+    let end = (start as usize).checked_add(length as usize)?;
+    pool.get(start as usize..end)
 }
 
 impl Recipe {

@@ -45,6 +45,7 @@ fn reads(recipe: &Recipe, step: &Step, k: usize) -> Vec<usize> {
                 .collect()
         }
         Work::Arithmetic(_) => vec![k, 4 * pixel + 3],
+        Work::Transfer(_) => vec![k],
         _ => (4 * pixel..4 * pixel + 4).collect(),
     }
 }

@@ -1,17 +1,17 @@
 //! The stored list of recipes, which a Rattle program replays without Rust.
 //!
 //! Little-endian u32 words: width, height, kind (0 straight, 1 premultiplied), P, the P numbers of the
-//! pool, count, S, and S steps of nine words: code, output, first input, second input (0 where there is
-//! one input) and five parameters; then five times a length with that many bytes (slots 0 to 3 and
+//! pool, count, S, and S steps of sixteen words: code, output, first input, second input (0 where there is
+//! one input) and twelve parameters; then five times a length with that many bytes (slots 0 to 3 and
 //! scratch); then the answer's number and step, 1 where the result reaches slot 0 and else 0, and the five
 //! sheets' bytes after the run. Bytes are padded with zeros to a whole number of words. The end of the file
 //! ends the list.
 
-use super::{Kind, Recipe, STEPS, Step, Work, draw, draw_spoiled, reaches, run};
+use super::{Function, Kind, Recipe, STEPS, Step, Work, draw, draw_spoiled, reaches, run};
 use crate::rng::Rng;
 
 const SEED: u64 = 0x7265_6369;
-const ACCEPTED: usize = 150;
+const ACCEPTED: usize = 140;
 /// Every fault, and those of a step.
 const FAULTS: [u8; 8] = [1, 2, 3, 4, 5, 6, 7, 8];
 const OF_STEPS: [u8; 5] = [7, 8, 3, 4, 5];
@@ -26,7 +26,7 @@ pub fn list() -> Vec<u8> {
     for _ in 0..ACCEPTED {
         write(&mut list, &draw(&mut rng));
     }
-    for faults in [&FAULTS[..], &OF_STEPS, &FAULTS, &OF_STEPS, &OF_STEPS] {
+    for faults in [&FAULTS[..], &OF_STEPS, &FAULTS, &OF_STEPS] {
         for first in faults {
             for second in [&0].into_iter().chain(faults) {
                 write(&mut list, &draw_spoiled(&mut rng, *first, *second));
@@ -132,21 +132,36 @@ fn write(list: &mut Vec<u8>, recipe: &Recipe) {
     }
 }
 
-fn words(step: &Step) -> [u32; 9] {
+/// The words of a step.
+const STEP_WORDS: usize = 16;
+
+fn words(step: &Step) -> [u32; STEP_WORDS] {
     let bits = f32::to_bits;
     let (code, parameters) = match step.work {
-        Work::Morphology(op, rx, ry) => (1, [op, bits(rx), bits(ry), 0, 0]),
-        Work::Matrix(start, length) => (2, [0, start, length, 0, 0]),
-        Work::Saturate(v) => (2, [1, bits(v), 0, 0, 0]),
-        Work::HueRotate(cosine, sine) => (2, [2, bits(cosine), bits(sine), 0, 0]),
-        Work::LuminanceToAlpha => (2, [3, 0, 0, 0, 0]),
-        Work::Arithmetic([k1, k2, k3, k4]) => (3, [bits(k1), bits(k2), bits(k3), bits(k4), 0]),
+        Work::Morphology(op, rx, ry) => (1, vec![op, bits(rx), bits(ry)]),
+        Work::Matrix(start, length) => (2, vec![0, start, length]),
+        Work::Saturate(v) => (2, vec![1, bits(v)]),
+        Work::HueRotate(cosine, sine) => (2, vec![2, bits(cosine), bits(sine)]),
+        Work::LuminanceToAlpha => (2, vec![3]),
+        Work::Arithmetic(k) => (3, k.map(bits).into()),
+        Work::Transfer(functions) => (4, functions.map(function_words).concat()),
     };
     let first = step.inputs[0] as u32;
     let second = step.inputs.get(1).map_or(0, |slot| *slot as u32);
-    let mut words = [code, step.output as u32, first, second, 0, 0, 0, 0, 0];
-    words[4..].copy_from_slice(&parameters);
+    let mut words = [0; STEP_WORDS];
+    words[..4].copy_from_slice(&[code, step.output as u32, first, second]);
+    words[4..4 + parameters.len()].copy_from_slice(&parameters);
     words
+}
+
+/// The kind of a transfer function, and its range or its slope and intercept.
+fn function_words(function: Function) -> [u32; 3] {
+    match function {
+        Function::Identity => [0, 0, 0],
+        Function::Table(start, length) => [1, start, length],
+        Function::Discrete(start, length) => [2, start, length],
+        Function::Linear(slope, intercept) => [3, slope.to_bits(), intercept.to_bits()],
+    }
 }
 
 fn write_words(list: &mut Vec<u8>, words: impl IntoIterator<Item = u32>) {
@@ -180,7 +195,7 @@ mod tests {
             let count = word(&mut at) as usize;
             let steps = word(&mut at) as usize;
             assert!(steps <= STEPS && (count > STEPS || count <= steps));
-            at += 36 * steps;
+            at += 4 * STEP_WORDS * steps;
             let mut spans = Vec::new();
             for _ in 0..5 {
                 let length = word(&mut at) as usize;
@@ -209,7 +224,7 @@ mod tests {
         let answers = answers(&list);
         println!("{} bytes, {} recipes", list.len(), answers.len());
         assert!(list.len() <= MOST_BYTES);
-        assert!(answers.len() > 380);
+        assert!(answers.len() > 350);
         for number in 0..9 {
             let these = answers.iter().filter(|answer| answer.0 == number);
             let count = these.clone().count();

@@ -8,9 +8,6 @@ use Rattle.vectors.proofs.color_matrix_cases.matrix.Tie as tie
 returns : tie.Need-returns
 returns c = search needs
 
-sub-length : tie.Need-sub-length
-sub-length c = search needs
-
 returns-2 : tie.Need-returns-2
 returns-2 c = search needs
 
@@ -22,6 +19,9 @@ slice-aggregate-numbers c = simp length-take (omega arith)
 
 floats-requires : tie.Need-floats-requires
 floats-requires c κs = simp length-take (omega arith)
+
+sub-t12 : tie.Need-sub-t12
+sub-t12 c = search needs
 
 apply-requires : tie.Need-apply-requires
 apply-requires c κs = search needs
@@ -37,11 +37,11 @@ matrix-spec =
     tie.close
     (tie.spec
     returns
-    sub-length
     returns-2
     array-borrow-prefix-pool
     slice-aggregate-numbers
     floats-requires
+    sub-t12
     apply-requires
     same-length
     returns-3)

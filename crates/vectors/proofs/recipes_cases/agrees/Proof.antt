@@ -14,8 +14,8 @@ array-borrow-prefix-pool c = search needs
 slice-aggregate-numbers : tie.Need-slice-aggregate-numbers
 slice-aggregate-numbers c = simp length-take (omega arith)
 
-pool-requires : tie.Need-pool-requires
-pool-requires c κs = simp length-take (omega arith)
+floats-requires : tie.Need-floats-requires
+floats-requires c κs = simp length-take (omega arith)
 
 recipe-requires : tie.Need-recipe-requires
 recipe-requires c κs = search needs
@@ -33,7 +33,7 @@ agrees-spec =
     returns
     array-borrow-prefix-pool
     slice-aggregate-numbers
-    pool-requires
+    floats-requires
     recipe-requires
     on-sheets-requires
     returns-2)

@@ -4,23 +4,20 @@ use Prim.Native.Nat.{_≤_, _-_}
 use mathlib.Core.Path.{_≡_}
 use native.Mathlib.Omega.{arith}
 use lib.ListN.{length, length-set}
-use Rattle.vectors.proofs.color_matrix_cases.floats.Statement.{statement}
-use Rattle.vectors.proofs.color_matrix_cases.floats.Tie as tie
+use Rattle.vectors.proofs.reader.floats.Statement.{statement}
+use Rattle.vectors.proofs.reader.floats.Tie as tie
 
 abbrev Inv-loop : tie.InvT-loop
-Inv-loop list case numbers₀ i₀ numbers i = (length numbers ≡ length numbers₀) × (i ≤ length numbers)
+Inv-loop s at numbers₀ i₀ numbers i = (length numbers ≡ length numbers₀) × (i ≤ length numbers)
 
 abbrev μ-loop : tie.MeasureT-loop
-μ-loop list case numbers₀ i₀ numbers i = length numbers - i
+μ-loop s at numbers₀ i₀ numbers i = length numbers - i
 
 loop-holds : tie.Need-loop-holds Inv-loop μ-loop
 loop-holds c = search needs
 
-add-float : tie.Need-add-float Inv-loop μ-loop
-add-float c = search needs
-
-float-requires : tie.Need-float-requires Inv-loop μ-loop
-float-requires c κs = search needs
+nth-float-requires : tie.Need-nth-float-requires Inv-loop μ-loop
+nth-float-requires c κs = search needs
 
 mul-numbers : tie.Need-mul-numbers Inv-loop μ-loop
 mul-numbers c = search needs
@@ -50,8 +47,7 @@ floats-spec =
     Inv-loop
     μ-loop
     loop-holds
-    add-float
-    float-requires
+    nth-float-requires
     mul-numbers
     slice-write-numbers
     add-i
