@@ -13,7 +13,8 @@
  *   0  done
  *   1  width or height outside 1..2048
  *   2  a sheet or scratch is not exactly 4 * width * height bytes
- *   3  a matrix is not of 20 numbers
+ *   3  a matrix is not of 20 numbers, a table is over 256 entries, or a linear
+ *      function is not of 2 numbers
  *   4  a parameter is NaN or infinite
  *   5  a finite parameter is outside its range, or a number names no case
  *
@@ -68,6 +69,21 @@ nup_answer nup_hue_rotate(uint32_t width, uint32_t height, float cosine,
 /* Colour 0, and the luminance as alpha. Straight colour, in place.
    Refused: 1, 2. */
 nup_answer nup_luminance_to_alpha(uint32_t width, uint32_t height,
+                                  uint8_t *src, size_t src_len);
+
+/* kind_r, kind_g, kind_b, kind_a */
+enum { NUP_IDENTITY = 0, NUP_TABLE = 1, NUP_DISCRETE = 2, NUP_LINEAR = 3 };
+
+/* A function for each channel, given by its kind and its values: NUP_TABLE and
+   NUP_DISCRETE have up to 256 entries, NUP_LINEAR a slope and an intercept,
+   and those of NUP_IDENTITY are not read. NUP_IDENTITY and 0 entries leave the
+   channel alone. Straight colour, in place. Results are cut, not rounded.
+   Refused: 1, 2, 3, 4, 5 (values -65,536 to 65,536). */
+nup_answer nup_component_transfer(uint32_t width, uint32_t height,
+                                  uint8_t kind_r, const float *r, size_t r_len,
+                                  uint8_t kind_g, const float *g, size_t g_len,
+                                  uint8_t kind_b, const float *b, size_t b_len,
+                                  uint8_t kind_a, const float *a, size_t a_len,
                                   uint8_t *src, size_t src_len);
 
 /* k1 * src1 * src2 + k2 * src1 + k3 * src2 + k4 of each channel; where the new

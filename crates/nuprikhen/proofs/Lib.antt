@@ -1,3 +1,4 @@
 mod Mapping
 mod Calls
 mod Operators
+mod Functions

@@ -1,6 +1,7 @@
 // The C functions. Each is total and thin: it calls the Rattle function and turns the answer into two numbers.
 mod leaves;
 mod nup_color_matrix;
+mod nup_component_transfer;
 mod nup_composite;
 mod nup_morphology;
 
