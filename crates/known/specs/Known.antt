@@ -3,7 +3,8 @@
 use Prim.Native.Nat.{ℕ}
 use mathlib.Core.List.{List, [], _∷_}
 use lib.Ieee.{Float, binary32, add, mul, div, eq, lt, ofInt, ofBits, toBits, toUnsigned}
-use Rattle.floats.specs.Channel.{normalized}
+use Rattle.floats.specs.Channel.{normalized, fromNormalized}
+use Rattle.floats.specs.Floor.{floorTo}
 use Rattle.floats.specs.Order.{nearZero}
 use Rattle.floats.specs.Round.{roundTo}
 use Rattle.sheet.specs.Tabulate.{tabulate}
@@ -11,6 +12,11 @@ use Rattle.morphology.specs.declared.operator.MorphologyOperator.{MorphologyOpe
 use Rattle.morphology.specs.declared.operator.MorphologyOperator.the-variants.{Dilate, Erode}
 use Rattle.morphology.specs.Extremum.{over, extremum, window}
 use Rattle.morphology.specs.Morphology.{radius, spreadOver, morphed}
+use Rattle.pool.specs.Pool.{numbersOf}
+use Rattle.component_transfer.specs.declared.TransferFunction.{TransferFunction}
+use Rattle.component_transfer.specs.declared.TransferFunction.the-variants.{Discrete, Linear}
+use Rattle.component_transfer.specs.Functions.{discrete, linear}
+use Rattle.component_transfer.specs.ComponentTransfer.{transfer, transferred}
 use Rattle.composite.specs.Arithmetic.{factors, calc, scaled}
 use Rattle.composite.specs.Composite.{composed}
 
@@ -40,8 +46,13 @@ unfoldable pub constant : Float → List ℕ
 unfolding composed calc scaled normalized nearZero tabulate alphas add mul div eq lt ofInt ofBits toBits toUnsigned
 constant k4 = composed (factors (f32 0) (f32 0) (f32 0) k4) (alphas (0 ∷ [])) (alphas (0 ∷ []))
 
+-- a sheet with the same function in all four channels
+unfoldable pub alike : TransferFunction → List Float → List ℕ → List ℕ
+unfolding transferred transfer discrete linear floorTo numbersOf normalized fromNormalized tabulate add mul div lt ofInt ofBits toUnsigned
+alike f pool s = transferred (transfer f pool) (transfer f pool) (transfer f pool) (transfer f pool) s
+
 unfoldable pub table : List Row
-unfolding alphas spread pixels constant
+unfolding alphas spread pixels constant alike
 table =
     (spread Dilate (f32 0x3f80_0000), alphas (200 ∷ 200 ∷ 200 ∷ []))  -- radius 1
     ∷ (spread Erode (f32 0x3f80_0000), alphas (10 ∷ 10 ∷ 30 ∷ []))
@@ -49,4 +60,6 @@ table =
     ∷ (pixels (f32 0x3f00_0000), 1 ∷ [])  -- radius 0.5
     ∷ (pixels (f32 0x3eff_ffff), 0 ∷ [])  -- radius 0.49999997
     ∷ (constant (f32 0x3f00_0000), 127 ∷ 127 ∷ 127 ∷ 127 ∷ [])  -- k4 0.5
+    ∷ (alike (Linear (f32 0) (f32 0x3f00_0000)) [] (0 ∷ 1 ∷ 128 ∷ 255 ∷ []), 127 ∷ 127 ∷ 127 ∷ 127 ∷ [])  -- slope 0, intercept 0.5
+    ∷ (alike (Discrete (record { start = 0; length = 2 })) (f32 0 ∷ f32 0x3f80_0000 ∷ []) (0 ∷ 127 ∷ 128 ∷ 255 ∷ []), 0 ∷ 0 ∷ 255 ∷ 255 ∷ [])  -- 0, 1
     ∷ []
