@@ -5,6 +5,7 @@ use std::io::Read;
 use std::process::ExitCode;
 
 use nuprikhen::color_matrix::{self, ColorMatrix};
+use nuprikhen::component_transfer::{self, TransferFunction};
 use nuprikhen::morphology::{self, MorphologyOperator};
 use pam::Picture;
 
@@ -19,6 +20,7 @@ usage: filter_pam IN.pam OUT.pam FILTER
   saturate V         0 is grey, 1 changes nothing
   hue DEGREES        the hue turned
   luminance          colour 0, and the luminance as alpha
+  poster             four levels of each colour
 
 Pictures are PAM: P7, RGB_ALPHA, DEPTH 4, MAXVAL 255, sides 1 to 2,048. Colour is taken as it stands:
 dilate and erode take it as premultiplied, the others as straight, which is the same where a picture
@@ -46,9 +48,16 @@ const MATRICES: [(&str, [f32; 20]); 3] = [
     ]),
 ];
 
+/// Red, green and blue in four levels; alpha is kept.
+const POSTER: [TransferFunction; 4] = {
+    let levels = TransferFunction::Discrete(&[0.0, 1.0 / 3.0, 2.0 / 3.0, 1.0]);
+    [levels, levels, levels, TransferFunction::Identity]
+};
+
 enum Filter {
     Morphology(MorphologyOperator, f32, f32),
     Matrix(ColorMatrix<'static>),
+    Transfer([TransferFunction<'static>; 4]),
 }
 
 fn main() -> ExitCode {
@@ -107,6 +116,7 @@ fn filter_of(words: &[&str]) -> Result<Filter, String> {
             Filter::Matrix(ColorMatrix::HueRotate(angle.cos(), angle.sin()))
         }
         ["luminance"] => Filter::Matrix(ColorMatrix::LuminanceToAlpha),
+        ["poster"] => Filter::Transfer(POSTER),
         _ => {
             return Err(format!(
                 "no filter `{}`; --help lists them",
@@ -139,6 +149,9 @@ fn apply(filter: &Filter, picture: &mut Picture) -> Result<(), String> {
             morphology::apply(*operator, *rx, *ry, *width, *height, sheet, &mut scratch)
         }
         Filter::Matrix(matrix) => color_matrix::apply(matrix, *width, *height, sheet),
+        Filter::Transfer([r, g, b, a]) => {
+            component_transfer::apply(r, g, b, a, *width, *height, sheet)
+        }
     };
     told.map_err(|refusal| refusal.to_string())
 }
@@ -203,6 +216,16 @@ mod tests {
             .filtered(&pam::write(&row()), &["dilate", "1", "0"])
             .expect("done");
         assert_eq!(pam::read(&bytes).expect("a picture").sheet, [200; 12]);
+    }
+
+    #[test]
+    fn a_poster_has_four_levels() {
+        let folder = Folder::new("poster");
+        let bytes = folder
+            .filtered(&pam::write(&row()), &["poster"])
+            .expect("done");
+        let poster = [[0, 0, 0, 10], [255, 255, 255, 200], [0, 0, 0, 30]].concat();
+        assert_eq!(pam::read(&bytes).expect("a picture").sheet, poster);
     }
 
     #[test]

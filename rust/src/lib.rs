@@ -18,6 +18,7 @@
 //! ```
 
 pub mod color_matrix;
+pub mod component_transfer;
 pub mod composite;
 mod library;
 pub mod morphology;

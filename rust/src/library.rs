@@ -54,6 +54,25 @@ unsafe extern "C" {
 
     pub fn nup_luminance_to_alpha(width: u32, height: u32, src: *mut u8, src_len: usize) -> Answer;
 
+    pub fn nup_component_transfer(
+        width: u32,
+        height: u32,
+        kind_r: u8,
+        r: *const f32,
+        r_len: usize,
+        kind_g: u8,
+        g: *const f32,
+        g_len: usize,
+        kind_b: u8,
+        b: *const f32,
+        b_len: usize,
+        kind_a: u8,
+        a: *const f32,
+        a_len: usize,
+        src: *mut u8,
+        src_len: usize,
+    ) -> Answer;
+
     pub fn nup_arithmetic(
         width: u32,
         height: u32,

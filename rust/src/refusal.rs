@@ -11,7 +11,7 @@ use std::fmt;
 /// |---|---|---|
 /// | 1 | Size | width or height outside 1..=2,048 |
 /// | 2 | Length | a sheet or scratch is not exactly 4 x width x height bytes |
-/// | 3 | Shape | a matrix is not of 20 numbers |
+/// | 3 | Shape | a matrix is not of 20 numbers, or a table is over 256 entries |
 /// | 4 | NotFinite | a parameter is NaN or infinite |
 /// | 5 | Range | a finite parameter is outside its range |
 ///
@@ -43,7 +43,10 @@ const TESTS: [(&str, &str); 8] = [
         "Length",
         "a sheet or scratch is not exactly 4 x width x height bytes",
     ),
-    ("Shape", "a matrix is not of 20 numbers"),
+    (
+        "Shape",
+        "a matrix is not of 20 numbers, or a table is over 256 entries",
+    ),
     ("NotFinite", "a parameter is NaN or infinite"),
     ("Range", "a finite parameter is outside its range"),
     ("Steps", "a recipe of 0 steps or over 16"),

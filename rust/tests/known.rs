@@ -1,6 +1,7 @@
 //! Document 01's known results, through the library.
 
 use nuprikhen::color_matrix::{self, ColorMatrix};
+use nuprikhen::component_transfer::{self, TransferFunction};
 use nuprikhen::morphology::{self, MorphologyOperator};
 use nuprikhen::{SIDE_LIMIT, composite};
 
@@ -66,6 +67,56 @@ fn each_color_matrix() {
     assert_eq!(after(ColorMatrix::Saturate(-1.0)), [54, 54, 54, 99]);
     assert_eq!(after(ColorMatrix::HueRotate(1.0, 0.0)), [255, 0, 0, 99]);
     assert_eq!(after(ColorMatrix::LuminanceToAlpha), [0, 0, 0, 54]);
+}
+
+/// A pixel after the same function in all four channels.
+fn transferred(function: TransferFunction, mut src: [u8; 4]) -> [u8; 4] {
+    let f = &function;
+    component_transfer::apply(f, f, f, f, 1, 1, &mut src).expect("done");
+    src
+}
+
+#[test]
+fn transfer_is_cut() {
+    let linear = TransferFunction::Linear {
+        slope: 0.0,
+        intercept: 0.5,
+    };
+    assert_eq!(transferred(linear, [0, 1, 128, 255]), [127; 4]);
+}
+
+#[test]
+fn discrete_halves() {
+    let halves = TransferFunction::Discrete(&[0.0, 1.0]);
+    assert_eq!(transferred(halves, [0, 127, 128, 255]), [0, 0, 255, 255]);
+}
+
+#[test]
+fn what_leaves_a_channel_alone() {
+    let src = [0, 127, 128, 255];
+    for function in [
+        TransferFunction::Identity,
+        TransferFunction::Table(&[]),
+        TransferFunction::Discrete(&[]),
+        TransferFunction::Table(&[0.0, 1.0]),
+    ] {
+        assert_eq!(transferred(function, src), src);
+    }
+}
+
+#[test]
+fn each_channel_has_its_function() {
+    let [zero, one] = [0.0, 1.0].map(|intercept| TransferFunction::Linear {
+        slope: 0.0,
+        intercept,
+    });
+    for channel in 0..4 {
+        let [r, g, b, a] = [0, 1, 2, 3].map(|i| if i == channel { &one } else { &zero });
+        let mut src = [9; 4];
+        component_transfer::apply(r, g, b, a, 1, 1, &mut src).expect("done");
+        let expected = [0, 1, 2, 3].map(|i| if i == channel { 255 } else { 0 });
+        assert_eq!(src, expected);
+    }
 }
 
 #[test]

@@ -2,6 +2,7 @@
 
 use nuprikhen::Refusal;
 use nuprikhen::color_matrix::{self, ColorMatrix};
+use nuprikhen::component_transfer::{self, TransferFunction};
 use nuprikhen::composite;
 use nuprikhen::morphology::{self, MorphologyOperator};
 
@@ -44,6 +45,16 @@ fn dilate(number: u8, (width, height): (u32, u32), r: [f32; 2], lengths: [usize;
 fn color(number: u8, (width, height): (u32, u32), matrix: &ColorMatrix, length: usize) {
     let mut src = sheet(length);
     is(number, color_matrix::apply(matrix, width, height, &mut src));
+    assert_eq!(src, sheet(length));
+}
+
+fn transfer(number: u8, (width, height): (u32, u32), f: [TransferFunction; 4], length: usize) {
+    let mut src = sheet(length);
+    let [r, g, b, a] = &f;
+    is(
+        number,
+        component_transfer::apply(r, g, b, a, width, height, &mut src),
+    );
     assert_eq!(src, sheet(length));
 }
 
@@ -122,6 +133,47 @@ fn color_matrix_refuses() {
 }
 
 #[test]
+fn component_transfer_refuses() {
+    let linear = |slope, intercept| TransferFunction::Linear { slope, intercept };
+    let kinds = [
+        TransferFunction::Identity,
+        TransferFunction::Table(&[0.5; 256]),
+        TransferFunction::Discrete(&[0.5; 256]),
+        linear(0.5, 0.5),
+    ];
+    for size in SIZES {
+        transfer(1, size, kinds, 16);
+    }
+    for length in LENGTHS {
+        transfer(2, (2, 2), kinds, length);
+    }
+    let long = [0.5; 257];
+    let wrong = [
+        TransferFunction::Table(&long),
+        TransferFunction::Discrete(&long),
+    ];
+    for functions in each_replaced(kinds, &wrong) {
+        transfer(3, (2, 2), functions, 16);
+    }
+    for (number, news) in [(4, &NOT_FINITE[..]), (5, &BEYOND[..])] {
+        for entries in each_replaced([0.5; 5], news) {
+            let wrong = [
+                TransferFunction::Table(&entries),
+                TransferFunction::Discrete(&entries),
+            ];
+            for functions in each_replaced(kinds, &wrong) {
+                transfer(number, (2, 2), functions, 16);
+            }
+        }
+        for [slope, intercept] in each_replaced([0.5; 2], news) {
+            for functions in each_replaced(kinds, &[linear(slope, intercept)]) {
+                transfer(number, (2, 2), functions, 16);
+            }
+        }
+    }
+}
+
+#[test]
 fn arithmetic_refuses() {
     for size in SIZES {
         arithmetic(1, size, [0.5; 4], [16; 3]);
@@ -146,6 +198,18 @@ fn the_first_test_that_fails_answers() {
     let mut both = [BEYOND[0]; 20];
     both[19] = f32::NAN;
     color(4, (2, 2), &ColorMatrix::Matrix(&both), 16);
+}
+
+/// A test is made of all four channels before the next one.
+#[test]
+fn the_first_test_of_all_channels_answers() {
+    let far = TransferFunction::Table(&[BEYOND[0]]);
+    let nan = TransferFunction::Discrete(&[f32::NAN]);
+    let long = TransferFunction::Table(&[f32::NAN; 257]);
+    transfer(1, (0, 2), [far, nan, long, nan], 1);
+    transfer(2, (2, 2), [far, nan, long, nan], 1);
+    transfer(3, (2, 2), [far, nan, long, nan], 16);
+    transfer(4, (2, 2), [far, far, far, nan], 16);
 }
 
 #[test]
