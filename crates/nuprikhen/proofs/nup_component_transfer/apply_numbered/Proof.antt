@@ -1,6 +1,7 @@
 -- The tests come in the definition's order, and functions that pass are handed on.
 use borrow.Author.Needs.{needs}
 use mathlib.Core.Path.{refl}
+use denote.Ref.{now}
 use Rattle.sheet.proofs.Answers.{refusing, first-refusal, next-test}
 use Rattle.sheet.proofs.Contracts.{filtered-refused}
 use Rattle.component_transfer.specs.ComponentTransfer.{answer}
@@ -69,12 +70,12 @@ same-length c = search needs
 returns-3 : tie.Need-returns-3
 returns-3 c = let each = each-passes (c .before .before .before .before .before .before .before .before .before .before .of-all .ensures) (c .before .before .before .before .before .before .before .before .enum-told3 .given .1) in
     filtered-as refl refl (c .before .before .apply .ensures)
-    (same-answer _ _ _
+    (same-answer (c .before .before .before .before .before .before .before .before .before .before .before .before .before .before .before .before .before .before .before .before .before .before .before .args .width) (c .before .before .before .before .before .before .before .before .before .before .before .before .before .before .before .before .before .before .before .before .before .before .before .args .height) (now (c .before .before .before .before .before .before .before .before .before .before .before .before .before .before .before .before .before .before .before .before .before .before .before .args .src))
     (passed-same _ (c .before .before .before .before .before .before .before .before .before .before .before .before .before .before .before .before .before .before .before .before .before .before .before .args .red) (c .before .before .before .before .before .before .before .before .before .before .before .before .before .before .test-numbered .ensures) (each .0) (c .before .before .before .before .before .before .before .function-of .ensures))
     (passed-same _ (c .before .before .before .before .before .before .before .before .before .before .before .before .before .before .before .before .before .before .before .before .before .before .before .args .green) (c .before .before .before .before .before .before .before .before .before .before .before .before .before .test-numbered2 .ensures) (each .1) (c .before .before .before .before .before .before .function-of2 .ensures))
     (passed-same _ (c .before .before .before .before .before .before .before .before .before .before .before .before .before .before .before .before .before .before .before .before .before .before .before .args .blue) (c .before .before .before .before .before .before .before .before .before .before .before .before .test-numbered3 .ensures) (each .2) (c .before .before .before .before .before .function-of3 .ensures))
     (passed-same _ (c .before .before .before .before .before .before .before .before .before .before .before .before .before .before .before .before .before .before .before .before .before .before .before .args .alpha) (c .before .before .before .before .before .before .before .before .before .before .before .test-numbered4 .ensures) (each .3) (c .before .before .before .before .function-of4 .ensures)))
-    (same-bytes _
+    (same-bytes (now (c .before .before .before .before .before .before .before .before .before .before .before .before .before .before .before .before .before .before .before .before .before .before .before .args .src))
     (same-byte _ (c .before .before .before .before .before .before .before .function-of .ensures))
     (same-byte _ (c .before .before .before .before .before .before .function-of2 .ensures))
     (same-byte _ (c .before .before .before .before .before .function-of3 .ensures))
