@@ -1,2 +1,3 @@
 pub mod Text
 pub mod Pam
+pub mod Written

@@ -1,8 +1,10 @@
 // PAM, netpbm's format, as far as sheets go: P7, RGB_ALPHA, depth 4, maxval 255.
 mod header;
 mod text;
+mod writing;
 
 use sheet::SIDE_LIMIT;
+pub use writing::write_header;
 ghost use mathlib.Core.Path.{_≡_};
 ghost use Rattle.pam.specs.Pam.{fitted, pictureOf};
 
