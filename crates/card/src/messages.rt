@@ -8,6 +8,7 @@ pub fn help(pixels: usize) {
     io::write_all(STDOUT_FILENO, b"usage: card RECIPE < IN.pam > OUT.pam\n\n");
     recipe(b"outline    a line round shapes on a clear ground: what dilation by 2 adds");
     recipe(b"fade       colours halved towards white");
+    recipe(b"poster     colours cut down to four levels each");
     io::write_all(
         STDOUT_FILENO,
         b"\nPictures are PAM: P7, DEPTH 4, MAXVAL 255, TUPLTYPE RGB_ALPHA, sides 1 to ",
@@ -17,7 +18,7 @@ pub fn help(pixels: usize) {
     number(STDOUT_FILENO, pixels);
     io::write_all(
         STDOUT_FILENO,
-        b" pixels.\nColour is taken as it stands: outline takes it as premultiplied, fade as straight, which\nis the same where a picture is opaque or wholly clear.\n",
+        b" pixels.\nColour is taken as it stands: outline takes it as premultiplied, the others as straight,\nwhich is the same where a picture is opaque or wholly clear.\n",
     );
 }
 

@@ -1,5 +1,6 @@
 // The built-in recipes. Each leaves its result in slot 3.
 use color_matrix::ColorMatrix;
+use component_transfer::TransferFunction;
 use filter::Kind;
 use filter::Recipe;
 use filter::Step;
@@ -12,6 +13,7 @@ ghost use lib.ListN.{length};
 pub enum Builtin {
     Outline,
     Fade,
+    Poster,
 }
 
 // What a word asks for.
@@ -34,6 +36,9 @@ pub fn named(word: &[u8]) -> Asked {
     if check::same(word, b"fade") {
         return Asked::Recipe(Builtin::Fade);
     }
+    if check::same(word, b"poster") {
+        return Asked::Recipe(Builtin::Poster);
+    }
     Asked::Unknown
 }
 
@@ -42,6 +47,7 @@ pub fn kind(builtin: Builtin) -> Kind {
     match builtin {
         Builtin::Outline => Kind::Premultiplied,
         Builtin::Fade => Kind::Straight,
+        Builtin::Poster => Kind::Straight,
     }
 }
 
@@ -49,12 +55,13 @@ pub fn recipe(builtin: Builtin) -> Recipe {
     match builtin {
         Builtin::Outline => outline(),
         Builtin::Fade => fade(),
+        Builtin::Poster => poster(),
     }
 }
 
-// The numbers that the recipes lend: fade's matrix, which halves each colour towards white.
-pub fn pool() -> [f32; 20]
-    ensures { λ r. ⌜ 20 ≡ length r ⌝ }
+// The numbers that the recipes lend: fade's matrix, which halves each colour towards white, and poster's four levels.
+pub fn pool() -> [f32; 24]
+    ensures { λ r. ⌜ 24 ≡ length r ⌝ }
 {
     [
         0.5,
@@ -76,7 +83,11 @@ pub fn pool() -> [f32; 20]
         0.0,
         0.0,
         1.0,
+        0.0, //
         0.0,
+        0.34,
+        0.67,
+        1.0,
     ]
 }
 
@@ -104,6 +115,15 @@ fn fade() -> Recipe {
         length: 20,
     };
     one(Work::ColorMatrix(0, ColorMatrix::Matrix(numbers)))
+}
+
+// Each colour is cut down to one of four levels; alpha is left alone.
+fn poster() -> Recipe {
+    let levels = TransferFunction::Discrete(Numbers {
+        start: 20,
+        length: 4,
+    });
+    one(Work::ComponentTransfer(0, levels, levels, levels, TransferFunction::Identity))
 }
 
 // A recipe of one step.
