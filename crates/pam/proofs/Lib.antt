@@ -1,3 +1,4 @@
 pub mod Words
 pub mod Lines
 pub mod Stores
+pub mod ReadBack

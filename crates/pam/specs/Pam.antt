@@ -1,11 +1,10 @@
 -- A PAM picture: what its header's lines say, and whether it is taken. Definitions only.
 use Prim.Native.Nat.{ℕ, _+_, _*_}
-use mathlib.Core.Bool.{Bool, true, false, cond}
+use mathlib.Core.Bool.{true, false, cond}
 use mathlib.Core.List.{List, [], _∷_}
 use lib.ListN.{length, drop}
 use lib.Dec.{eqb, ltb, leb}
 use Rattle.sheet.specs.Size.{sideLimit}
-use Rattle.pam.specs.declared.Fault.{Fault}
 use Rattle.pam.specs.declared.Fault.the-variants.{NotPam, NoEnd, Unknown, Twice, Kind, NoSize, Size, Pixels, Short, Long}
 use Rattle.pam.specs.declared.Picture.{Picture}
 use Rattle.pam.specs.declared.Picture.the-variants.{Taken, Wrong}

@@ -1,7 +1,7 @@
 -- Whether the bytes begin with the word is whether those that are left begin with what is left of it.
 use borrow.Author.Needs.{needs}
-use Prim.Native.Nat.{_+_, _-_, _≤_}
-use mathlib.Core.Path.{_≡_, refl, sym, ap, _∙_}
+use Prim.Native.Nat.{_-_, _≤_}
+use mathlib.Core.Path.{_≡_, refl, sym, _∙_}
 use lib.ListN.{length, drop}
 use Rattle.pam.specs.Text.{begins}
 use Rattle.pam.proofs.Words.{begins-next, begins-ends, begins-differs, begins-done}

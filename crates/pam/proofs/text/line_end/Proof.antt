@@ -1,7 +1,7 @@
 -- The line ends as many bytes further as come before the next newline.
 use borrow.Author.Needs.{needs}
 use Prim.Native.Nat.{_+_, _-_, _≤_}
-use mathlib.Core.Path.{_≡_, refl, sym, ap, _∙_}
+use mathlib.Core.Path.{_≡_, refl, sym, _∙_}
 use lib.ListN.{length, drop}
 use Rattle.pam.specs.Text.{before}
 use Rattle.pam.proofs.Words.{end-next, end-here, end-done}

@@ -1,7 +1,7 @@
 -- The number is the one so far with the digits that are left.
 use borrow.Author.Needs.{needs}
-use Prim.Native.Nat.{_+_, _-_, _≤_}
-use mathlib.Core.Path.{_≡_, refl, sym, ap, _∙_}
+use Prim.Native.Nat.{_-_, _≤_}
+use mathlib.Core.Path.{_≡_, refl, sym, _∙_}
 use lib.ListN.{length, drop}
 use Rattle.sheet.proofs.Answers.{denied, allowed}
 use Rattle.pam.specs.Text.{withDigits, numberLimit}
