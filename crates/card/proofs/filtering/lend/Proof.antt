@@ -2,8 +2,14 @@
 use borrow.Author.Needs.{needs}
 use native.Mathlib.Omega.{arith}
 use lib.ListN.{length-take}
-use Rattle.card.proofs.lend.Statement.{statement}
-use Rattle.card.proofs.lend.Tie as tie
+use Rattle.card.proofs.filtering.lend.Statement.{statement}
+use Rattle.card.proofs.filtering.lend.Tie as tie
+
+slice-aggregate-say : tie.Need-slice-aggregate-say
+slice-aggregate-say c = search needs
+
+say-requires : tie.Need-say-requires
+say-requires c κs = search needs
 
 returns : tie.Need-returns
 returns c = search needs
@@ -54,6 +60,8 @@ pub lend-spec : {M : Type 1} → statement M
 lend-spec =
     tie.close
     (tie.spec
+    slice-aggregate-say
+    say-requires
     returns
     slice-relend-prefix-run
     slice-aggregate-run
