@@ -14,7 +14,7 @@ use Rattle.sheet.specs.declared.Answer.{Answer}
 use Rattle.sheet.specs.declared.Answer.the-variants.{Done}
 use Rattle.sheet.specs.Answer.{andThen}
 use Rattle.sheet.specs.Size.{sheetsAnswer}
-use Rattle.sheet.proofs.Answers.{sheets-add}
+use Rattle.sheet.proofs.Answers.{sheets-first, sheets-add}
 use Rattle.filter.specs.declared.recipe.Step.{Step}
 use Rattle.filter.specs.Slots.{Slots, slots, slotOf, put, made, act, acts}
 use Rattle.filter.specs.Engine.{Fits, Legal}
@@ -61,6 +61,14 @@ module _ {w h : ℕ} where
 
     pub two-fit : {l l′ : List ℕ} (s s′ : ℕ) → l ≡ slotOf x s → l′ ≡ slotOf x s′ → sheetsAnswer w h (length l ∷ length l′ ∷ n ∷ []) ≡ Done
     two-fit {l} {l′} s s′ e e′ = sheets-add w h _ _ (lone-fits s′ e′) (ap length e ∙ f .slot s)
+
+-- a filter that works in place, on a copy of the sheet a in the sheet b
+module _ (w h a b : ℕ) (l : List ℕ) (e : sheetsAnswer w h (a ∷ b ∷ l) ≡ Done) where
+  pub equally-long : a ≡ b
+  equally-long = let x = sheets-first w h a (b ∷ l) e in x .0 ∙ sym (sheets-first w h b l (x .1) .0)
+
+  pub copy-fits : {n : ℕ} → n ≡ a → sheetsAnswer w h (n ∷ l) ≡ Done
+  copy-fits d = let x = sheets-first w h a (b ∷ l) e in sheets-add w h _ _ (sheets-first w h b l (x .1) .1) (d ∙ x .0)
 
 -- what the loop over the steps keeps: the lengths, and the count
 pub record Keeping (n1 n2 n3 ns : ℕ) (a b c s : List ℕ) (i count : ℕ) : Type 0 where
