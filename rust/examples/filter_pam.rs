@@ -50,7 +50,7 @@ const MATRICES: [(&str, [f32; 20]); 3] = [
 
 /// Red, green and blue in four levels; alpha is kept.
 const POSTER: [TransferFunction; 4] = {
-    let levels = TransferFunction::Discrete(&[0.0, 1.0 / 3.0, 2.0 / 3.0, 1.0]);
+    let levels = TransferFunction::Discrete(&[0.0, 0.34, 0.67, 1.0]);
     [levels, levels, levels, TransferFunction::Identity]
 };
 
