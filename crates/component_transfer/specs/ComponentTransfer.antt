@@ -5,8 +5,6 @@ use mathlib.Core.List.{List, [], _∷_}
 use lib.ListN.{length, getD}
 use lib.Dec.{leb, eqb}
 use lib.Ieee.{Float}
-use denote.Triple.Both.{Both}
-use denote.Ref.{RefT, now}
 use Rattle.floats.specs.Channel.{normalized, fromNormalized}
 use Rattle.sheet.specs.declared.Refusal.the-variants.{Shape}
 use Rattle.sheet.specs.declared.Answer.{Answer}
@@ -15,7 +13,7 @@ use Rattle.sheet.specs.Answer.{number, refused, onDone, andThen}
 use Rattle.sheet.specs.Size.{sheetsAnswer}
 use Rattle.sheet.specs.Tabulate.{tabulate}
 use Rattle.pool.specs.declared.Numbers.{Numbers}
-use Rattle.pool.specs.Pool.{numbersAnswer, numbersOf, rangeAnswer}
+use Rattle.pool.specs.Pool.{Pool, numbers, numbersAnswer, numbersOf, rangeAnswer}
 use Rattle.component_transfer.specs.declared.TransferFunction.{TransferFunction}
 use Rattle.component_transfer.specs.declared.TransferFunction.the-variants.{Identity, Table, Discrete, Linear}
 use Rattle.component_transfer.specs.Functions as Functions
@@ -83,11 +81,8 @@ unfoldable pub transferred : (r g b a : ℕ → ℕ) → List ℕ → List ℕ
 transferred r g b a s = tabulate (length s) (transferAt r g b a s)
 
 -- ---- over a lent pool itself
-abbrev pub Pool : Type 0
-Pool = Both (RefT (List Float)) (RefT (List Float))
-
 abbrev pub tested : TransferFunction → Pool → Answer
-tested f pool = functionAnswer f (now (pool .entry))
+tested f pool = functionAnswer f (numbers pool)
 
 abbrev pub byteOf : TransferFunction → Pool → ℕ → ℕ
-byteOf f pool = transfer f (now (pool .entry))
+byteOf f pool = transfer f (numbers pool)

@@ -16,7 +16,8 @@ use Rattle.sheet.proofs.Answers.{sheets-sized}
 use Rattle.filter.specs.declared.recipe.Kind.{Kind}
 use Rattle.filter.specs.declared.recipe.Recipe.{Recipe}
 use Rattle.filter.specs.Recipe.{stepOf}
-use Rattle.filter.specs.Slots.{Slots, slots, acts, lengths, ran, Pool, numbers, entry, answer, Ran}
+use Rattle.pool.specs.Pool.{Pool, numbers}
+use Rattle.filter.specs.Slots.{Slots, slots, acts, lengths, ran, entry, answer, Ran}
 use Rattle.filter.specs.Reach.{result, ReachesExactly}
 use Rattle.filter.specs.Engine.{reachesAt}
 use Rattle.filter.proofs.Accepted.{sheets-passed}

@@ -5,7 +5,7 @@ use mathlib.Core.Bool.{Bool, true, false}
 use Rattle.sheet.specs.Contract.{Sheet}
 use Rattle.filter.specs.declared.recipe.Kind.{Kind}
 use Rattle.filter.specs.declared.recipe.Recipe.{Recipe}
-use Rattle.filter.specs.Slots.{Pool}
+use Rattle.pool.specs.Pool.{Pool}
 use Rattle.filter.specs.Reach.{ReachesExactly}
 
 pub reaches-settled : (r : Recipe) (k : Kind) (pool : Pool) (w h : ℕ) (source slot1 slot2 slot3 scratch : Sheet) (b b′ : Bool)

@@ -8,6 +8,7 @@ use lib.Dec.{eqb}
 use lib.Ieee.{Float}
 use Rattle.sheet.specs.declared.Answer.the-variants.{Done}
 use Rattle.sheet.specs.Contract.{Sheet}
+use Rattle.pool.specs.Pool.{Pool, numbers}
 use Rattle.morphology.specs.Reads as morphology
 use Rattle.composite.specs.Reads as composite
 use Rattle.color_matrix.specs.Reads as color-matrix
@@ -18,7 +19,7 @@ use Rattle.filter.specs.declared.recipe.Work.the-variants.{Morphology, A
 use Rattle.filter.specs.declared.recipe.Step.{Step}
 use Rattle.filter.specs.declared.recipe.Recipe.{Recipe}
 use Rattle.filter.specs.Recipe.{stepOf}
-use Rattle.filter.specs.Slots.{Pool, numbers, answer}
+use Rattle.filter.specs.Slots.{answer}
 
 -- byte k of what is worked out reads byte j of slot s; one more primitive adds a line
 abbrev pub Reads : Work → List Float → ℕ → ℕ → ℕ → ℕ → ℕ → Type 0

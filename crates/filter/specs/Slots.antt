@@ -6,12 +6,11 @@ use mathlib.Core.List.{List, [], _∷_}
 use lib.ListN.{length}
 use lib.Dec.{eqb}
 use lib.Ieee.{Float}
-use denote.Triple.Both.{Both}
-use denote.Ref.{RefT, now}
 use Rattle.sheet.specs.declared.Answer.{Answer}
 use Rattle.sheet.specs.Answer.{onDone}
 use Rattle.sheet.specs.Contract.{Sheet, was, left}
 use Rattle.sheet.specs.Tabulate.{zeros}
+use Rattle.pool.specs.Pool.{Pool, numbers}
 use Rattle.morphology.specs.Morphology.{morphed}
 use Rattle.composite.specs.Composite.{composed}
 use Rattle.composite.specs.Arithmetic.{factors}
@@ -62,13 +61,6 @@ unfoldable pub ran : Recipe → Kind → List Float → ℕ → ℕ → Slots �
 ran r k pool w h x scratch = onDone (runAnswer r k pool w h (lengths x scratch)) (acts pool w h (stepOf r) (r .count) x) x
 
 -- ---- the contract of `run`, over the lent parameters themselves
--- a lent pool of numbers
-abbrev pub Pool : Type 0
-Pool = Both (RefT (List Float)) (RefT (List Float))
-
-abbrev pub numbers : Pool → List Float
-numbers p = now (p .entry)
-
 abbrev pub entry : Sheet → Sheet → Sheet → Sheet → Slots
 entry source slot1 slot2 slot3 = slots (was source) (was slot1) (was slot2) (was slot3)
 

@@ -5,19 +5,19 @@ use mathlib.Core.Bool.{cond}
 use mathlib.Core.List.{List}
 use lib.Dec.{eqb}
 use lib.ListN.{length}
-use denote.Ref.{now}
 use Rattle.sheet.specs.declared.Refusal.the-variants.{Shape, Range}
 use Rattle.sheet.specs.declared.Answer.{Answer}
 use Rattle.sheet.specs.declared.Answer.the-variants.{Done}
 use Rattle.sheet.specs.Answer.{refused, andThen}
 use Rattle.pool.specs.declared.Numbers.{Numbers}
+use Rattle.pool.specs.Pool.{Pool, numbers}
 use Rattle.morphology.specs.declared.operator.MorphologyOperator.{MorphologyOperator}
 use Rattle.morphology.specs.declared.operator.MorphologyOperator.the-variants.{Dilate, Erode}
 use Rattle.morphology.specs.Morphology as Morphology
 use Rattle.component_transfer.specs.declared.TransferFunction.{TransferFunction}
 use Rattle.component_transfer.specs.declared.TransferFunction.the-variants.{Identity, Table, Discrete, Linear}
 use Rattle.component_transfer.specs.Functions.{entry}
-use Rattle.component_transfer.specs.ComponentTransfer.{functionAnswer, transfer, Pool}
+use Rattle.component_transfer.specs.ComponentTransfer.{functionAnswer, transfer}
 
 -- 0 is Dilate, 1 is Erode
 abbrev pub operatorOf : ℕ → MorphologyOperator
@@ -58,7 +58,7 @@ kindAnswer (suc (suc (suc (suc n)))) values = refused Range
 
 -- ---- over lent values themselves
 abbrev pub testedBy : ℕ → Pool → Answer
-testedBy kind values = kindAnswer kind (now (values .entry))
+testedBy kind values = kindAnswer kind (numbers values)
 
 abbrev pub byteBy : ℕ → Pool → ℕ → ℕ
-byteBy kind values = transfer (functionOf kind (now (values .entry))) (now (values .entry))
+byteBy kind values = transfer (functionOf kind (numbers values)) (numbers values)

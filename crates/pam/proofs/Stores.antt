@@ -9,7 +9,8 @@ use borrow.Author.Tests.{lt-ltb, le-ltb}
 use lib.Dec.{ltb}
 use lib.ListN.{length, take, getD, set, length-append}
 use lib.Seq.{sets, length-sets, take-suc, length-take-le}
-use Rattle.pam.specs.Written.{decimal, Put, First}
+use Rattle.io.specs.Counts.{Counts}
+use Rattle.pam.specs.Written.{decimal, Put}
 
 sets-append : (v l : List ℕ) (i : ℕ) (w : List ℕ) → sets l i (v ++ w) ≡ sets (sets l i v) (i + length v) w
 sets-append [] l i w = let z : i + 0 ≡ i = omega arith in rw z
@@ -29,7 +30,7 @@ put-one b p = put-both p (record { stored = refl; ends = refl })
 pub put-length : {l m : List ℕ} {at e : ℕ} {v : List ℕ} → Put l at v m e → length m ≡ length l
 put-length {l} {m} {at} {e} {v} p = ap length (p .stored) ∙ length-sets l at v
 
-pub put-first : {l m : List ℕ} {at e n : ℕ} {v : List ℕ} → Put l at v m e → length l ≡ n → e ≤ n → First e m
+pub put-first : {l m : List ℕ} {at e n : ℕ} {v : List ℕ} → Put l at v m e → length l ≡ n → e ≤ n → Counts e m
 put-first {l} {m} {at} {e} {n} p k h =
     let z : e ≤ length m = rw (put-length p, k) h in
     (z, sym (length-take-le e m z))

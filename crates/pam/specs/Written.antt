@@ -1,9 +1,9 @@
 -- How a picture's header is written. Definitions only.
-use Prim.Native.Nat.{ℕ, zero, suc, _+_, _/_, _%_, _≤_}
+use Prim.Native.Nat.{ℕ, zero, suc, _+_, _/_, _%_}
 use mathlib.Core.Path.{_≡_}
 use mathlib.Core.Bool.{cond}
 use mathlib.Core.List.{List, [], _∷_, _++_}
-use lib.ListN.{length, take}
+use lib.ListN.{length}
 use lib.Seq.{sets}
 use lib.Dec.{ltb}
 
@@ -40,7 +40,3 @@ headerBytes w h = beforeWidth ++ (decimal mostDigits w ++ (beforeHeight ++ (deci
 pub record Put (before : List ℕ) (at : ℕ) (bytes after : List ℕ) (end : ℕ) : Type 0 where
   pub stored : after ≡ sets before at bytes
   pub ends : end ≡ at + length bytes
-
--- the first n bytes of l can be lent
-abbrev pub First : ℕ → List ℕ → Type 0
-First n l = (n ≤ length l) × (n ≡ length (take n l))

@@ -2,7 +2,8 @@
 ghost use mathlib.Core.Path.{_≡_};
 ghost use Prim.Native.Nat.{_+_, _≤_, _<_};
 ghost use lib.ListN.{length};
-ghost use Rattle.pam.specs.Written.{decimal, headerBytes, Put, First};
+ghost use Rattle.io.specs.Counts.{Counts};
+ghost use Rattle.pam.specs.Written.{decimal, headerBytes, Put};
 
 // No side has more digits.
 const MOST_DIGITS: usize = 20;
@@ -66,7 +67,7 @@ fn put_header(width: usize, height: usize, out: &mut [u8]) -> usize
 // Stores the header of a picture with these sides at the start of `out`, and answers how long it is.
 pub fn write_header(width: usize, height: usize, out: &mut [u8; 128]) -> usize
     ensures { λ r. ⌜ Put (now (out .entry)) 0 (headerBytes width height) (now (out .exit)) r ⌝ }
-    ensures { λ r. ⌜ First r (now (out .exit)) ⌝ }
+    ensures { λ r. ⌜ Counts r (now (out .exit)) ⌝ }
 {
     put_header(width, height, out)
 }

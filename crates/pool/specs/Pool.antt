@@ -1,4 +1,4 @@
--- The tests 3, 4 and 5 of lent numbers. Definitions only.
+-- Lent numbers, and their tests 3, 4 and 5. Definitions only.
 use Prim.Native.Nat.{ℕ, _+_}
 use mathlib.Core.Bool.{Bool, true, false, cond}
 use mathlib.Core.List.{List, [], _∷_}
@@ -6,12 +6,21 @@ use lib.ListN.{length, take, drop}
 use lib.Dec.{leb}
 use lib.Ieee.{Float, binary32, ofBits}
 use lib.Ieee.Scale.{finite}
+use denote.Triple.Both.{Both}
+use denote.Ref.{RefT, now}
 use Rattle.floats.specs.Order.{within}
 use Rattle.sheet.specs.declared.Refusal.the-variants.{Shape, NotFinite, Range}
 use Rattle.sheet.specs.declared.Answer.{Answer}
 use Rattle.sheet.specs.declared.Answer.the-variants.{Done}
 use Rattle.sheet.specs.Answer.{refused}
 use Rattle.pool.specs.declared.Numbers.{Numbers}
+
+-- a lent pool of numbers
+abbrev pub Pool : Type 0
+Pool = Both (RefT (List Float)) (RefT (List Float))
+
+abbrev pub numbers : Pool → List Float
+numbers p = now (p .entry)
 
 -- within -65,536..=65,536
 abbrev pub inRange : Float → Bool
