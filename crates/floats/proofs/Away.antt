@@ -7,7 +7,7 @@ use mathlib.Core.Bool.{Bool, true, false, _&&_, _||_}
 use lib.Dec.{T, ltb, eqb, ltb→lt, eqb→eq}
 use Rattle.floats.specs.Round.{away}
 
-le-of-lt-suc : {a b : ℕ} → a < suc b → a ≤ b
+pub le-of-lt-suc : {a b : ℕ} → a < suc b → a ≤ b
 le-of-lt-suc h = omega arith
 
 pub div-at : (n d k : ℕ) → 0 < d → k * d ≤ n → n < suc k * d → n / d ≡ k

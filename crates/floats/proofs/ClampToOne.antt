@@ -12,7 +12,7 @@ use lib.Ieee.Order.{drop, kept, round-mono}
 use lib.Ieee.Scale.{round-same, grid, overflow, round-val}
 use Rattle.floats.proofs.Away.{le-cross}
 use Rattle.floats.specs.Channel.{fromNormalized}
-use Rattle.floats.specs.Steps.{plain, upTo, ClampedUnit}
+use Rattle.floats.specs.inner.Steps.{plain, upTo, ClampedUnit}
 use Rattle.floats.proofs.Tests.{is-false}
 use Rattle.floats.proofs.Fractions.{nought, lt-asym}
 use Rattle.floats.proofs.Magnitudes.{zero-size, zero-neg}

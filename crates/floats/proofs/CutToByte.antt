@@ -13,7 +13,7 @@ use lib.Ieee.Bits.{ofBits-fits, toBits-ofBits}
 use lib.Ieee.Exact.{HasValue, odd-sign}
 use lib.Ieee.Back.{whole-unique}
 use lib.Ieee.Positive.{num, den, den-pos}
-use Rattle.floats.specs.Steps.{upTo, Clamped}
+use Rattle.floats.specs.inner.Steps.{upTo, Clamped}
 use Rattle.floats.proofs.Tests.{is-false}
 use Rattle.floats.proofs.Fractions.{nought, revalue, lt-yes, lt-no}
 use Rattle.floats.proofs.NearestWhole as whole

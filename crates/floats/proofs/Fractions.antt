@@ -31,10 +31,10 @@ revalue (fin t m e) s w l num den p h v = (
 
 -- ---- X / E is a / c and Y / D is b / d
 module _ (X E Y D a c b d : ℕ) (p : X * c ≡ a * E) (q : Y * d ≡ b * D) where
-  left : X * D * (c * d) ≡ a * d * (E * D)
+  pub left : X * D * (c * d) ≡ a * d * (E * D)
   left = simp (mul-assoc, mul-comm, mul-left-comm) (simp (mul-assoc, mul-comm, mul-left-comm) at (ap (λ (z : ℕ). z * (D * d)) p))
 
-  right : Y * E * (c * d) ≡ b * c * (E * D)
+  pub right : Y * E * (c * d) ≡ b * c * (E * D)
   right = simp (mul-assoc, mul-comm, mul-left-comm) (simp (mul-assoc, mul-comm, mul-left-comm) at (ap (λ (z : ℕ). z * (E * c)) q))
 
   cross-sum : (X * D + Y * E) * (c * d) ≡ (a * d + b * c) * (E * D)
@@ -137,7 +137,7 @@ size-gt n j h = lt-of-not-le (λ (g : size n ≤ j). not-le-of-lt (lt-of-lt-of-l
 pub size-at : (p l z : ℕ) → 0 < p → p - 1 + l < z → z ≤ p + l → z - p ≡ l
 size-at p l z P a b = omega arith
 
-reaches : (f : Format) → prec f + low f < low f + suc (emax f)
+pub reaches : (f : Format) → prec f + low f < low f + suc (emax f)
 reaches binary32 = lit< tt
 reaches binary64 = lit< tt
 

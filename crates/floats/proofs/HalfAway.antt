@@ -13,7 +13,7 @@ use lib.Ieee.Scale.{finite}
 use lib.Ieee.Positive.{num, den, den-pos}
 use Rattle.floats.specs.Round.{away}
 use Rattle.floats.proofs.Away.{div-at, twice-pos}
-use Rattle.floats.specs.Steps.{upTo}
+use Rattle.floats.specs.inner.Steps.{upTo}
 use Rattle.floats.proofs.Fractions.{add-at, lt-yes, lt-no}
 use Rattle.floats.proofs.Units.{finite-widens}
 use Rattle.floats.proofs.NearestWhole as whole

@@ -10,7 +10,7 @@ use lib.Ieee.{Float, nan, inf, fin, up, down, neg, lt}
 use lib.Ieee.Fits.{down-pos}
 use Rattle.floats.specs.Round.{away, roundTo}
 use Rattle.floats.proofs.Away.{away-ge, away-zero}
-use Rattle.floats.specs.Steps.{signedBy, Sized}
+use Rattle.floats.specs.inner.Steps.{signedBy, Magnitude}
 use Rattle.floats.proofs.Fractions.{nought}
 
 -- 2 ^ 31
@@ -24,7 +24,7 @@ none-below n d h = omega arith
 under : (n d : ℕ) → n * 1 < 1 * 2147483648 * d → n ≤ 2147483648 * d
 under n d h = omega arith
 
-pub as-it-is : (x : Float) → T (lt nought x) → T (lt x word) → Sized false x x
+pub as-it-is : (x : Float) → T (lt nought x) → T (lt x word) → Magnitude false x x
 unfolding lt signedBy roundTo
 as-it-is nan a b = absurd a
 as-it-is (inf true) a b = absurd a
@@ -38,7 +38,7 @@ over n d h = omega arith
 less : (a : ℕ) → 2147483648 ≤ a → 2147483647 ≤ a
 less a h = omega arith
 
-pub over-top : (x : Float) → T (lt nought x) → T (not (lt x word)) → Sized false x word
+pub over-top : (x : Float) → T (lt nought x) → T (not (lt x word)) → Magnitude false x word
 unfolding lt signedBy roundTo
 over-top nan a b = absurd a
 over-top (inf true) a b = absurd a
@@ -49,7 +49,7 @@ over-top (fin false m e) a b = record {
   same = ap pos (sym (min-eq-right (less (away (m * up e) (down e)) (away-ge (m * up e) (down e) 2147483648 (down-pos e) (over (m * up e) (down e) (nltb→le (m * up e * 1) (1 * 2147483648 * down e) b))))));
 }
 
-pub negated : (x : Float) → T (lt x nought) → T (lt (fin true 1 (pos 31)) x) → Sized true x (neg x)
+pub negated : (x : Float) → T (lt x nought) → T (lt (fin true 1 (pos 31)) x) → Magnitude true x (neg x)
 unfolding lt signedBy roundTo neg
 negated nan a b = absurd a
 negated (inf true) a b = absurd b
@@ -57,7 +57,7 @@ negated (inf false) a b = absurd a
 negated (fin false m e) a b = absurd (none-below (m * up e) (down e) (ltb→lt (m * up e * 1) (0 * 1 * down e) a))
 negated (fin true m e) a b = record { inside = le→leb (m * up e) (2147483648 * down e) (under (m * up e) (down e) (ltb→lt (m * up e * 1) (1 * 2147483648 * down e) b)); same = refl }
 
-pub under-bottom : (x : Float) → T (lt x nought) → T (not (lt (fin true 1 (pos 31)) x)) → Sized true x word
+pub under-bottom : (x : Float) → T (lt x nought) → T (not (lt (fin true 1 (pos 31)) x)) → Magnitude true x word
 unfolding lt signedBy roundTo
 under-bottom nan a b = absurd a
 under-bottom (inf true) a b = record { inside = tt; same = refl }
@@ -77,7 +77,7 @@ zero-neg n d h = omega arith
 min-zero : (a c : ℕ) → a ≡ 0 → min a c ≡ 0
 min-zero a c h = omega arith
 
-pub neither : (x : Float) → T (not (lt nought x)) → T (not (lt x nought)) → Sized false x nought
+pub neither : (x : Float) → T (not (lt nought x)) → T (not (lt x nought)) → Magnitude false x nought
 unfolding lt signedBy roundTo
 neither nan a b = record { inside = tt; same = refl }
 neither (inf true) a b = absurd b

@@ -11,7 +11,7 @@ use lib.Ieee.{Float, fin, binary64, sub, le, lt, fits}
 use lib.Ieee.Fits.{and-l, and-i}
 use lib.Ieee.Exact.{HasValue}
 use Rattle.floats.specs.Unit.{inUnits, aboutOne}
-use Rattle.floats.specs.Steps.{plain, FewDigits}
+use Rattle.floats.specs.inner.Steps.{plain, FewDigits}
 use Rattle.floats.proofs.Tests.{is-false, same-test, sub-mul}
 use Rattle.floats.proofs.Units.{in-units, sub-exact}
 use Rattle.floats.proofs.SumTests.{le-value, le-same, lt-value, not-lt-value, plain-finite, units-are}

@@ -13,7 +13,7 @@ use lib.Ieee.Exact.{HasValue}
 use lib.Ieee.Nearest.{closest, nearest-ge}
 use lib.Ieee.Back.{round-whole}
 use lib.Ieee.Positive.{num, den, den-pos}
-use Rattle.floats.specs.Steps.{upTo}
+use Rattle.floats.specs.inner.Steps.{upTo}
 use Rattle.floats.proofs.Fractions.{add-at, sub-at, round-near-whole}
 
 -- ---- a / b to the nearest whole number is within a half
@@ -31,7 +31,7 @@ compared a b = go (compare a b) (leb→le a b) (nleb→lt a b) (eqb→eq a b) (�
     go Ordering·eq h k e n = e tt
     go Ordering·gt h k e n = k tt
 
-closest-half : (a b : ℕ) → 0 < b → (2 * (closest a b * b) ≤ 2 * a + b) × (2 * a ≤ 2 * (closest a b * b) + b)
+pub closest-half : (a b : ℕ) → 0 < b → (2 * (closest a b * b) ≤ 2 * a + b) × (2 * a ≤ 2 * (closest a b * b) + b)
 closest-half a b B = go (compare (a % b * 2) b) (compared (a % b * 2) b)
   where
     lo : (q r : ℕ) → q + r ≡ a → 2 * q ≤ 2 * a + b

@@ -14,7 +14,7 @@ use lib.Ieee.Positive.{num, den, den-pos}
 use lib.Ieee.Scale.{round-same}
 use Rattle.floats.specs.Round.{away}
 use Rattle.floats.proofs.Away.{away-le}
-use Rattle.floats.specs.Steps.{upTo, signedBy}
+use Rattle.floats.specs.inner.Steps.{upTo, signedBy}
 use Rattle.floats.proofs.Fractions.{nought, lt-yes, lt-no}
 use Rattle.floats.proofs.NearestWhole.{bounded-value}
 use Rattle.floats.proofs.HalfAway.{ofInt-is}

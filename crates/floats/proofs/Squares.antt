@@ -10,7 +10,7 @@ use lib.Ieee.Fits.{down-pos}
 use lib.Ieee.Exact.{HasValue, round-exact}
 use lib.Ieee.Scale.{round-same, finite}
 use Rattle.floats.specs.Unit.{inUnits, squared}
-use Rattle.floats.specs.Steps.{plain, ExactSquare}
+use Rattle.floats.specs.inner.Steps.{plain, ExactSquare}
 use Rattle.floats.proofs.Fractions.{revalue}
 use Rattle.floats.proofs.Units.{Finite, in-units}
 use Rattle.floats.proofs.SumTests.{units-are}

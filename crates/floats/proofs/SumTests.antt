@@ -14,7 +14,7 @@ use lib.Ieee.Order.{transfer, le-of-values, round-mono}
 use lib.Ieee.Scale.{round-same, overflow}
 use Rattle.floats.specs.Unit.{inUnits}
 use Rattle.floats.proofs.Away.{le-cross}
-use Rattle.floats.specs.Steps.{plain}
+use Rattle.floats.specs.inner.Steps.{plain}
 use Rattle.floats.proofs.Tests.{is-true, is-false, same-test, either, sub-mul}
 use Rattle.floats.proofs.Fractions.{add-at, sub-at, lt-yes, lt-no}
 use Rattle.floats.proofs.Units.{Units, Finite, in-units, sterbenz, value-unique}

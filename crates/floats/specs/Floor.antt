@@ -1,4 +1,4 @@
--- Rounding down to a whole number. Definitions only.
+-- Rounding down to a whole number.
 use Prim.Native.Nat.{ℕ, _+_, _-_, _*_, _/_, _^_, min}
 use mathlib.Core.Bool.{Bool, true, false, cond}
 use lib.IntN.{ℤ, pos, negsuc, negℤ}

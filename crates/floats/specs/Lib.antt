@@ -2,6 +2,10 @@ pub mod Order
 pub mod Round
 pub mod Unit
 pub mod Channel
-pub mod Steps
+pub mod inner
+pub mod Constants
 pub mod Operators
 pub mod Floor
+pub mod Root
+pub mod Narrow
+pub mod Absolute

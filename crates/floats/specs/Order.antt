@@ -1,11 +1,12 @@
--- Near zero, the clamp, and a range. Definitions only.
+-- Near zero, the clamp, and a range.
 use mathlib.Core.Bool.{Bool, true, false, cond}
 use lib.Dec.{leb}
-use lib.Ieee.{Float, binary32, eq, lt, le, ofBits, toBits}
+use lib.Ieee.{Float, binary32, eq, lt, le, toBits}
+use Rattle.floats.specs.Constants.{c0}
 
 -- zero of either sign, or positive with bits at most 4
 unfoldable pub nearZero : Float → Bool
-nearZero x = cond (eq (ofBits binary32 0) x) true (cond (lt (ofBits binary32 0) x) (leb (toBits binary32 x) 4) false)
+nearZero x = cond (eq c0 x) true (cond (lt c0 x) (leb (toBits binary32 x) 4) false)
 
 -- resvg's `f32_bound`: the upper bound if above it, the lower if below, else the value; a NaN passes
 abbrev pub bound : Float → Float → Float → Float

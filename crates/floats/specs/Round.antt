@@ -1,4 +1,4 @@
--- Rounding to a whole number, a half away from zero. Definitions only.
+-- Rounding to a whole number, a half away from zero.
 use Prim.Native.Nat.{ℕ, _+_, _-_, _*_, _/_, _^_, min}
 use mathlib.Core.Bool.{cond}
 use lib.IntN.{ℤ, pos, negℤ}

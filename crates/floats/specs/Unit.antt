@@ -1,4 +1,4 @@
--- The exact test of a length against 1. Definitions only.
+-- The exact test of a length against 1.
 use Prim.Native.Nat.{ℕ, _+_, _*_, _/_, _^_}
 use mathlib.Core.Bool.{Bool, _&&_}
 use lib.Dec.{leb}

@@ -2,7 +2,7 @@
 ghost use mathlib.Core.Path.{_≡_};
 ghost use lib.Ieee as Ieee;
 ghost use lib.Dec.{T};
-ghost use Rattle.floats.specs.Steps.{upTo, Clamped};
+ghost use Rattle.floats.specs.inner.Steps.{upTo, Clamped};
 
 // Rust's `x as u8`: toward zero, 0 for a NaN and below 0, 255 from 255 on.
 pub fn to_byte(x: f32) -> u8

@@ -3,8 +3,8 @@ ghost use mathlib.Core.Path.{_≡_};
 ghost use lib.Ieee as Ieee;
 ghost use lib.Ieee.{binary32};
 ghost use Rattle.floats.specs.Channel as Channel;
-ghost use Rattle.floats.specs.Channel.{c255};
-ghost use Rattle.floats.specs.Steps.{ClampedUnit};
+ghost use Rattle.floats.specs.Constants.{c255};
+ghost use Rattle.floats.specs.inner.Steps.{ClampedUnit};
 use crate::byte::cut;
 use crate::byte::to_byte;
 

@@ -5,7 +5,7 @@ ghost use lib.IntN.{pos};
 ghost use lib.Ieee.{binary64, ofInt, lt};
 ghost use lib.Ieee.Positive.{num, den};
 ghost use Rattle.floats.specs.Round.{away, roundTo};
-ghost use Rattle.floats.specs.Steps.{upTo, Sized};
+ghost use Rattle.floats.specs.inner.Steps.{upTo, Magnitude};
 
 // Rust's `x.round() as i32`: the nearest whole number, a half away from zero; 0 for a NaN, and the nearest
 // end of the range beyond it.
@@ -24,7 +24,7 @@ pub fn round_to_i32(x: f32) -> i32
 
 // |x|, cut to 2^31; 0 for a NaN.
 fn magnitude(x: f32) -> f32
-    ensures { λ r. do ⌜ Sized (lt x (← ⟦0.0f32⟧ .entry)) x r ⌝ }
+    ensures { λ r. do ⌜ Magnitude (lt x (← ⟦0.0f32⟧ .entry)) x r ⌝ }
 {
     if x > 0.0 {
         if x < 2147483648.0 { x } else { 2147483648.0 }

@@ -6,7 +6,7 @@ ghost use lib.Dec.{T, leb};
 ghost use lib.Ieee.{binary64};
 ghost use lib.Ieee.Scale.{finite};
 ghost use Rattle.floats.specs.Unit.{inUnits, squared, aboutOne, unitPair, unitTriple};
-ghost use Rattle.floats.specs.Steps.{plain, FewDigits, ExactSquare};
+ghost use Rattle.floats.specs.inner.Steps.{plain, FewDigits, ExactSquare};
 use crate::order::is_finite;
 
 // Whether x * x + y * y differs from 1 by at most 1/1024, over the reals; false where one is not finite.

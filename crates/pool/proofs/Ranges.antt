@@ -17,10 +17,10 @@ module _ (r : Numbers) (pool : List Float) where
   unfolding rangeAnswer
   range-in e = cond-done (isIn r (length pool)) _ _ e .0
 
-  pub range-most : isIn r (length pool) ≡ true → r .start + r .length ≤ length pool
+  pub range-most : isIn r (length pool) ≡ true → r .start + r .count ≤ length pool
   unfolding isIn
-  range-most e = leb-true (r .start + r .length) (length pool) e
+  range-most e = leb-true (r .start + r .count) (length pool) e
 
-  pub length-numbers : isIn r (length pool) ≡ true → length (numbersOf r pool) ≡ r .length
+  pub length-numbers : isIn r (length pool) ≡ true → length (numbersOf r pool) ≡ r .count
   unfolding numbersOf
-  length-numbers e = let l = range-most e in simp (length-take, length-drop) (omega arith)
+  length-numbers e = let l = range-most e in rw e (simp (length-take, length-drop) (omega arith))

@@ -2,8 +2,6 @@
 use sheet::Answer;
 use sheet::Refusal;
 ghost use mathlib.Core.Path.{_≡_};
-ghost use mathlib.Core.Bool.{true};
-ghost use lib.ListN.{length};
 ghost use Rattle.pool.specs.Pool.{inRange, allFinite, allInRange, numbersAnswer, isIn, numbersOf, rangeAnswer};
 
 // The largest size of a number.
@@ -11,17 +9,19 @@ const NUMBER_LIMIT: f32 = 65536.0;
 
 // A range of the pool, which may lie anywhere.
 pub struct Numbers {
-    pub start: usize,
-    pub length: usize,
+    pub start: u32,
+    pub count: u32,
 }
 
-fn is_number(x: f32) -> bool
+// Whether x is within -65,536..=65,536.
+pub fn is_number(x: f32) -> bool
     ensures { λ r. ⌜ r ≡ inRange x ⌝ }
 {
     floats::within(-NUMBER_LIMIT, x, NUMBER_LIMIT)
 }
 
-fn all_finite(numbers: &[f32]) -> bool
+// Test 4 of numbers.
+pub fn all_finite(numbers: &[f32]) -> bool
     ensures { λ r. ⌜ r ≡ allFinite (now (numbers .entry)) ⌝ }
 {
     let mut i = 0;
@@ -34,7 +34,8 @@ fn all_finite(numbers: &[f32]) -> bool
     true
 }
 
-fn all_in_range(numbers: &[f32]) -> bool
+// Test 5 of numbers within -65,536..=65,536.
+pub fn all_in_range(numbers: &[f32]) -> bool
     ensures { λ r. ⌜ r ≡ allInRange (now (numbers .entry)) ⌝ }
 {
     let mut i = 0;
@@ -64,19 +65,22 @@ pub fn test(numbers: &[f32]) -> Answer
 pub fn is_in(numbers: Numbers, n: usize) -> bool
     ensures { λ r. ⌜ r ≡ isIn numbers n ⌝ }
 {
-    if n < numbers.length {
+    let count = numbers.count as usize;
+    if n < count {
         return false;
     }
-    numbers.start <= n - numbers.length
+    (numbers.start as usize) <= n - count
 }
 
-// The numbers of a range.
+// The numbers of a range; none where it does not lie in the pool.
 pub fn part(numbers: Numbers, pool: &[f32]) -> &[f32]
-    requires { ⌜ isIn numbers (length (now pool)) ≡ true ⌝ }
     ensures { λ r. ⌜ now r ≡ numbersOf numbers (now (pool .entry)) ⌝ }
 {
-    let start = numbers.start;
-    let end = start + numbers.length;
+    if !is_in(numbers, pool.len()) {
+        return &pool[0..0];
+    }
+    let start = numbers.start as usize;
+    let end = start + (numbers.count as usize);
     &pool[start..end]
 }
 

@@ -1,9 +1,9 @@
 -- The laws of answers and of tests 1 and 2: what a chain of tests that ends in Done tells, and which refusal stands.
-use Prim.Native.Nat.{ℕ, _+_, _*_, _≤_, _<_}
+use Prim.Native.Nat.{ℕ, _+_, _*_, _%_, _≤_, _<_}
 use mathlib.Core.Path.{_≡_, refl, sym, _∙_}
 use mathlib.Core.Bool.{Bool, true, false, cond, not, true≢false}
 use mathlib.Core.List.{List, [], _∷_, _++_}
-use native.Mathlib.Nat.{mul-le-mul}
+use native.Mathlib.Nat.{mul-assoc, mul-le-mul}
 use native.Mathlib.Omega.{arith}
 use borrow.Author.Needs.{needs}
 use borrow.Author.Tests.{eqb-true, eqb-false, leb-true, eq-eqb, ne-eqb, lt-ltb, le-ltb, le-leb, lt-leb, not-true, not-false}
@@ -14,7 +14,7 @@ use Rattle.sheet.specs.declared.Refusal.{Refusal}
 use Rattle.sheet.specs.declared.Refusal.the-variants.{Length}
 use Rattle.sheet.specs.declared.Answer.{Answer}
 use Rattle.sheet.specs.declared.Answer.the-variants.{Done, Refused}
-use Rattle.sheet.specs.Answer.{refused, onDone, andThen}
+use Rattle.sheet.specs.Answer.{refused, IsRefusal, onDone, andThen}
 use Rattle.sheet.specs.Size.{sideLimit, isSide, Sized, sizeAnswer, lengthsAnswer, sheetsAnswer}
 use Rattle.sheet.proofs.Answer.{the-type}
 
@@ -29,9 +29,14 @@ pub allowed : {r t : Bool} → r ≡ t → not r ≡ false → t ≡ true
 allowed {r} {t} e n = sym e ∙ not-false r n
 
 -- what `let Answer::Done = t else { return t; };` tells at the return
-pub refusing {ℓ} : {A : Type ℓ} (t : Answer) → OneOf (1 ∷ []) (tagOf the-type t) → (a b : A) → onDone t a b ≡ b
-refusing Done h a b = absurd (eqb-false 0 1 refl h)
-refusing (Refused r i) h a b = refl
+pub refusing : (t : Answer) → OneOf (1 ∷ []) (tagOf the-type t) → IsRefusal t
+refusing Done h = absurd (eqb-false 0 1 refl h)
+refusing (Refused r i) h = tt
+
+-- after a refusal what was stays
+pub stays {ℓ} : {A : Type ℓ} (t : Answer) → IsRefusal t → (a b : A) → onDone t a b ≡ b
+stays Done h a b = absurd h
+stays (Refused r i) h a b = refl
 
 -- ---- chains of tests
 pub cond-true : (t b : Bool) → cond t false b ≡ true → (t ≡ false) × (b ≡ true)
@@ -50,11 +55,18 @@ pub both-done : (p q : Answer) → andThen p q ≡ Done → (p ≡ Done) × (q �
 both-done Done q e = (refl, e)
 both-done (Refused r i) q e = let z : _≡_ {A = ℕ} 0 1 = cc in absurd (eqb-false 0 1 refl z)
 
-pub first-refusal : {p r : Answer} (q : Answer) → r ≡ p → ((a b : Answer) → onDone r a b ≡ b) → r ≡ andThen p q
-first-refusal q e h = rw (← e) (sym (h _ _))
+pub first-refusal : {p r : Answer} (q : Answer) → r ≡ p → IsRefusal r → r ≡ andThen p q
+first-refusal {p} {r} q e h = rw (← e) (sym (stays r h _ _))
 
 pub next-test : {p q r t : Answer} → r ≡ p → r ≡ Done → t ≡ q → t ≡ andThen p q
 next-test {p} {q} {r} {t} e d f = let z : p ≡ Done = sym e ∙ d in rw z f
+
+-- what `and_then` of two tests tells: its answer, and on Done that both pass
+pub both-tests : {p q t u r : Answer} → r ≡ andThen t u → t ≡ p → u ≡ q → r ≡ andThen p q
+both-tests e f g = rw (← f, ← g) e
+
+pub both-pass : {p q r : Answer} → r ≡ andThen p q → r ≡ Done → (p ≡ Done) × (q ≡ Done)
+both-pass {p} {q} {r} e d = both-done p q (sym e ∙ d)
 
 then-then : (p q r : Answer) → andThen p (andThen q r) ≡ andThen (andThen p q) r
 then-then Done q r = refl
@@ -117,6 +129,10 @@ sheets-first w h a l e =
     let y = each-length (4 * w * h) a l (x .1) in
     (y .0, rw (x .0) (y .1))
 
+-- a sheet is of whole pixels
+pub sheets-pixels : (w h a : ℕ) (l : List ℕ) → sheetsAnswer w h (a ∷ l) ≡ Done → a % 4 ≡ 0
+sheets-pixels w h a l e = let f = sheets-first w h a l e .0 in omega (arith, mul-assoc 4 w h)
+
 -- one more length of the right size passes too
 pub sheets-add : (w h a : ℕ) (l : List ℕ) → sheetsAnswer w h l ≡ Done → a ≡ 4 * w * h → sheetsAnswer w h (a ∷ l) ≡ Done
 unfolding sheetsAnswer lengthsAnswer
@@ -124,7 +140,7 @@ sheets-add w h a l d e = let x = both-done (sizeAnswer w h) (lengthsAnswer (4 * 
 
 -- a refusal of the sheets before stands; one more length is then compared with the first
 module _ (w h a : ℕ) (l : List ℕ) (b : ℕ) {r : Answer} (e : r ≡ sheetsAnswer w h (a ∷ l)) where
-  pub more-refused : ((p q : Answer) → onDone r p q ≡ q) → r ≡ sheetsAnswer w h (a ∷ (l ++ (b ∷ [])))
+  pub more-refused : IsRefusal r → r ≡ sheetsAnswer w h (a ∷ (l ++ (b ∷ [])))
   more-refused h′ = first-refusal _ e h′ ∙ sym (sheets-more w h (a ∷ l) b)
 
   pub more-wrong : r ≡ Done → (b ≡ a → ⊥) → refused Length ≡ sheetsAnswer w h (a ∷ (l ++ (b ∷ [])))

@@ -3,3 +3,4 @@ pub mod Tabulated
 pub mod Places
 pub mod Filling
 pub mod Contracts
+pub mod Apart

@@ -5,9 +5,10 @@ use mathlib.Core.List.{List}
 use native.Mathlib.Nat.{not-suc-le-zero, le-of-suc-le-suc}
 use lib.ListN.{length, getD}
 use lib.Seq.{ext-getD}
-use Rattle.sheet.specs.Tabulate.{tabulate, zeros}
+use borrow.Author.Tests.{lt-ltb}
+use Rattle.sheet.specs.Tabulate.{tabulate, repeated, zeros, copiedAt, copied}
 
-pub length-tabulate : (n : ℕ) (f : ℕ → ℕ) → length (tabulate n f) ≡ n
+pub length-tabulate : {A : Type 0} (n : ℕ) (f : ℕ → A) → length (tabulate n f) ≡ n
 unfolding tabulate
 length-tabulate zero f = refl
 length-tabulate (suc n) f = ap suc (length-tabulate n (λ k. f (suc k)))
@@ -32,9 +33,14 @@ pub tabulate-self : (l : List ℕ) (n : ℕ) → length l ≡ n → tabulate n (
 tabulate-self l n e = sym (tabulated l n (λ k. getD l k 0) e (λ i b. refl))
 
 pub length-zeros : (n : ℕ) → length (zeros n) ≡ n
-unfolding zeros
+unfolding repeated
 length-zeros n = length-tabulate n (λ k. 0)
 
 pub getD-zeros : (n i : ℕ) → i < n → getD (zeros n) i 0 ≡ 0
-unfolding zeros
+unfolding repeated
 getD-zeros n i h = getD-tabulate n (λ k. 0) i h
+
+-- a copy between sheets of one length is the source
+pub copied-all : (src dst : List ℕ) → length src ≡ length dst → copied src dst ≡ src
+unfolding copied
+copied-all src dst e = sym (tabulated src (length dst) (copiedAt src dst) e (λ k l. sym (rw (lt-ltb k (length src) (rw e l)))))

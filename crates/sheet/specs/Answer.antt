@@ -1,5 +1,7 @@
--- Answers: document 01's number and step index of each, and what a first refusal does. Definitions only.
-use Prim.Native.Nat.{ℕ}
+-- Answers: document 01's number and step index of each, and what a first refusal does.
+use Prim.Native.Nat.{ℕ, _-_}
+use mathlib.Core.List.{[], _∷_}
+use lib.ListN.{getD}
 use Rattle.sheet.specs.declared.Refusal.{Refusal}
 use Rattle.sheet.specs.declared.Refusal.the-variants.{Size, Length, Shape, NotFinite, Range, Steps, Slot, Kind}
 use Rattle.sheet.specs.declared.Answer.{Answer}
@@ -27,6 +29,15 @@ stepIndex (Refused r i) = i
 -- a refusal with step index 0
 abbrev pub refused : Refusal → Answer
 refused r = Refused r 0
+
+-- the refusal of document 01's number n, with step index 0
+abbrev pub refusal : ℕ → Answer
+refusal n = refused (getD (Size ∷ Length ∷ Shape ∷ NotFinite ∷ Range ∷ Steps ∷ Slot ∷ Kind ∷ []) (n - 1) Kind)
+
+-- the answer is a refusal
+abbrev pub IsRefusal : Answer → Type 0
+IsRefusal Done = ⊥
+IsRefusal (Refused r i) = Unit {0}
 
 -- at the answer Done the first, at any refusal the second
 abbrev pub onDone {ℓ} : {A : Type ℓ} → Answer → A → A → A

@@ -1,4 +1,4 @@
--- The one shape of a filter's contract: its answer and every lent byte are fixed by definitions. Definitions only.
+-- The one shape of a filter's contract: its answer and every lent element are fixed by definitions.
 use Prim.Native.Nat.{ℕ}
 use mathlib.Core.Path.{_≡_}
 use mathlib.Core.List.{List}
@@ -7,23 +7,27 @@ use denote.Triple.Both.{Both}
 use denote.Ref.{RefT, now}
 use Rattle.sheet.specs.declared.Answer.{Answer}
 use Rattle.sheet.specs.Answer.{onDone}
-use Rattle.sheet.specs.Tabulate.{zeros}
+use Rattle.sheet.specs.Tabulate.{repeated}
 
--- a lent sheet: its bytes at the call, and as the function returns
-abbrev pub Sheet : Type 0
-Sheet = Both (RefT (List ℕ)) (RefT (List ℕ))
+-- a lent slice: its elements at the call, and as the function returns
+abbrev pub Lent : Type 0 → Type 0
+Lent A = Both (RefT (List A)) (RefT (List A))
 
-abbrev pub was : Sheet → List ℕ
+abbrev pub was : {A : Type 0} → Lent A → List A
 was s = now (s .entry)
 
-abbrev pub left : Sheet → List ℕ
-left s = now (s .exit)
+abbrev pub became : {A : Type 0} → Lent A → List A
+became s = now (s .exit)
 
--- the call answered `answer`; on Done the sheet is `new`, and on a refusal no byte of it changed
-pub record Filtered (answer r : Answer) (new : List ℕ) (sheet : Sheet) : Type 0 where
+-- on Done the slice holds `new`, and on a refusal no element of it changed
+pub record Holds {A : Type 0} (answer : Answer) (new : List A) (s : Lent A) : Type 0 where
+  pub elements : became s ≡ onDone answer new (was s)
+
+-- the call answered `answer`, and the slice holds what that says
+pub record Filtered {A : Type 0} (answer r : Answer) (new : List A) (s : Lent A) : Type 0 where
   pub answered : r ≡ answer
-  pub bytes : left sheet ≡ onDone answer new (was sheet)
+  pub held : Holds answer new s
 
--- on Done the scratch is all zero, and on a refusal no byte of it changed
-pub record Cleared (answer : Answer) (scratch : Sheet) : Type 0 where
-  pub zero : left scratch ≡ onDone answer (zeros (length (was scratch))) (was scratch)
+-- on Done each element of the scratch is z, and on a refusal none changed
+abbrev pub Cleared : {A : Type 0} → A → Answer → Lent A → Type 0
+Cleared z answer scratch = Holds answer (repeated (length (was scratch)) z) scratch

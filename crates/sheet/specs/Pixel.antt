@@ -1,5 +1,5 @@
--- A pixel as one number, and where its bytes lie in a sheet. Definitions only.
-use Prim.Native.Nat.{ℕ, zero, suc, _+_, _*_, _/_, _%_}
+-- A pixel as one number, and where its bytes lie in a sheet.
+use Prim.Native.Nat.{ℕ, zero, suc, _+_, _*_, _/_, _%_, _≤_, _<_}
 use mathlib.Core.Path.{_≡_}
 use mathlib.Core.List.{List}
 use lib.ListN.{getD, set}
@@ -14,6 +14,12 @@ row w k = k / 4 / w
 -- where channel c of the pixel in column x and row y lies
 abbrev pub byteAt : ℕ → ℕ → ℕ → ℕ → ℕ
 byteAt w x y c = 4 * (y * w + x) + c
+
+-- place x lies within r of place i, and is one of 0..=n-1
+pub record Near (r n i x : ℕ) : Type 0 where
+  pub low : i ≤ x + r
+  pub high : x ≤ i + r
+  pub inside : x < n
 
 abbrev pub pixelOf : ℕ → ℕ → ℕ → ℕ → ℕ
 pixelOf r g b a = r + 256 * g + 65536 * b + 16777216 * a
@@ -37,6 +43,10 @@ pub record Channels (p r g b a : ℕ) : Type 0 where
 abbrev pub PixelAt : List ℕ → ℕ → ℕ → Type 0
 PixelAt s k p = Channels p (getD s k 0) (getD s (k + 1) 0) (getD s (k + 2) 0) (getD s (k + 3) 0)
 
+-- the sheet with four channels' bytes from k on
+unfoldable pub setChannels : List ℕ → ℕ → (r g b a : ℕ) → List ℕ
+setChannels s k r g b a = set (set (set (set s k r) (k + 1) g) (k + 2) b) (k + 3) a
+
 -- the sheet with a pixel's bytes from k on
-unfoldable pub setPixel : List ℕ → ℕ → ℕ → List ℕ
-setPixel s k p = set (set (set (set s k (channel 0 p)) (k + 1) (channel 1 p)) (k + 2) (channel 2 p)) (k + 3) (channel 3 p)
+abbrev pub setPixel : List ℕ → ℕ → ℕ → List ℕ
+setPixel s k p = setChannels s k (channel 0 p) (channel 1 p) (channel 2 p) (channel 3 p)

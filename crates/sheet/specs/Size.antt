@@ -1,12 +1,11 @@
--- Tests 1 and 2 of document 01: the sides, and the lengths of the lent sheets. Definitions only.
+-- Tests 1 and 2 of document 01: the sides, and the lengths of the lent sheets.
 use Prim.Native.Nat.{ℕ, _*_, _≤_, _<_}
 use mathlib.Core.Bool.{Bool, false, cond}
 use mathlib.Core.List.{List, [], _∷_}
 use lib.Dec.{leb, eqb}
-use Rattle.sheet.specs.declared.Refusal.the-variants.{Size, Length}
 use Rattle.sheet.specs.declared.Answer.{Answer}
 use Rattle.sheet.specs.declared.Answer.the-variants.{Done}
-use Rattle.sheet.specs.Answer.{refused, andThen}
+use Rattle.sheet.specs.Answer.{refusal, andThen}
 
 -- the longest side of a sheet
 abbrev pub sideLimit : ℕ
@@ -26,12 +25,12 @@ pub record Sized (w h : ℕ) : Type 0 where
 
 -- test 1
 unfoldable pub sizeAnswer : ℕ → ℕ → Answer
-sizeAnswer w h = cond (isSide w) (cond (isSide h) Done (refused Size)) (refused Size)
+sizeAnswer w h = cond (isSide w) (cond (isSide h) Done (refusal 1)) (refusal 1)
 
 -- each of the lengths is n
 unfoldable pub lengthsAnswer : ℕ → List ℕ → Answer
 lengthsAnswer n [] = Done
-lengthsAnswer n (a ∷ l) = cond (eqb a n) (lengthsAnswer n l) (refused Length)
+lengthsAnswer n (a ∷ l) = cond (eqb a n) (lengthsAnswer n l) (refusal 2)
 
 -- tests 1 and 2 of sheets of these lengths
 unfoldable pub sheetsAnswer : ℕ → ℕ → List ℕ → Answer

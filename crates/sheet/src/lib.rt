@@ -3,10 +3,11 @@ pub mod pixel;
 
 ghost use mathlib.Core.Path.{_≡_};
 ghost use mathlib.Core.List.{[], _∷_};
+ghost use Prim.Native.Nat.{min};
 ghost use lib.ListN.{length};
-ghost use Rattle.sheet.specs.Answer.{number, stepIndex};
+ghost use Rattle.sheet.specs.Answer.{number, stepIndex, andThen};
 ghost use Rattle.sheet.specs.Size.{isSide, sheetsAnswer};
-ghost use Rattle.sheet.specs.Tabulate.{zeros};
+ghost use Rattle.sheet.specs.Tabulate.{zeros, copied};
 
 // Why a call is turned away: document 01's numbers 1 to 8, in order.
 pub enum Refusal {
@@ -24,6 +25,12 @@ pub enum Refusal {
 pub enum Answer {
     Done,
     Refused(Refusal, u8),
+}
+
+// The sides of a sheet, in pixels.
+pub struct Size {
+    pub width: usize,
+    pub height: usize,
 }
 
 // The longest side of a sheet.
@@ -51,6 +58,16 @@ pub fn answer_number(answer: Answer) -> u8
     match answer {
         Answer::Done => 0,
         Answer::Refused(refusal, _) => refusal_number(refusal),
+    }
+}
+
+// Two tests in order: the first refusal stands.
+pub fn and_then(first: Answer, second: Answer) -> Answer
+    ensures { λ r. ⌜ r ≡ andThen first second ⌝ }
+{
+    match first {
+        Answer::Done => second,
+        Answer::Refused(_, _) => first,
     }
 }
 
@@ -118,13 +135,19 @@ pub fn test3(width: usize, height: usize, a: usize, b: usize, c: usize) -> Answe
     Answer::Done
 }
 
-// dst takes src's bytes.
-pub fn copy(src: &[u8], dst: &mut [u8])
-    requires { ⌜ length (now src) ≡ length (now dst) ⌝ }
-    ensures { λ _. ⌜ now (dst .exit) ≡ now (src .entry) ⌝ }
+fn shorter(a: usize, b: usize) -> usize
+    ensures { λ r. ⌜ r ≡ min a b ⌝ }
 {
+    if a < b { a } else { b }
+}
+
+// dst takes src's bytes, as many as both have; the rest of dst stays.
+pub fn copy(src: &[u8], dst: &mut [u8])
+    ensures { λ _. ⌜ now (dst .exit) ≡ copied (now (src .entry)) (now (dst .entry)) ⌝ }
+{
+    let n = shorter(src.len(), dst.len());
     let mut i = 0;
-    while i < dst.len() {
+    while i < n {
         dst[i] = src[i];
         i += 1;
     }

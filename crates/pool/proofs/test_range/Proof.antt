@@ -14,7 +14,7 @@ unfolding rangeAnswer
 returns c = search (tests, denied (c .before .is-in .ensures) (c .if1 .taken))
 
 part-requires : tie.Need-part-requires
-part-requires c κs = allowed (c .before .is-in .ensures) (c .if1 .left)
+part-requires c κs = search needs
 
 test-requires : tie.Need-test-requires
 test-requires c κs = search needs

@@ -3,7 +3,7 @@ use borrow.Author.Needs.{needs}
 use Prim.Native.Nat.{_-_}
 use mathlib.Core.Path.{refl}
 use lib.ListN.{length}
-use Rattle.sheet.specs.Tabulate.{zeros}
+use Rattle.sheet.specs.Tabulate.{repeated}
 use Rattle.sheet.proofs.Filling.{Filling, fill-start, fill-store, fill-done}
 use Rattle.sheet.proofs.clear.Statement.{statement}
 use Rattle.sheet.proofs.clear.Tie as tie
@@ -33,7 +33,7 @@ same-length : tie.Need-same-length Inv-loop μ-loop
 same-length c = search needs
 
 returns : tie.Need-returns Inv-loop μ-loop
-unfolding zeros
+unfolding repeated
 returns c = fill-done (c .before .loop .inv) (c .loop-test .left) refl
 
 pub clear-spec : {M : Type 1} → statement M

@@ -1,21 +1,25 @@
--- Each byte passed is src's: the loop fills the table of src's bytes, which is src.
+-- Each byte passed is src's; past the shorter length a byte is dst's own.
 use borrow.Author.Needs.{needs}
-use Prim.Native.Nat.{_-_}
-use mathlib.Core.Path.{refl, _∙_}
-use lib.ListN.{length, getD}
-use Rattle.sheet.proofs.Tabulated.{tabulate-self}
-use Rattle.sheet.proofs.Filling.{Filling, fill-start, fill-store, fill-done}
+use Prim.Native.Nat.{_-_, _≤_, min}
+use mathlib.Core.Path.{_≡_, refl}
+use native.Mathlib.Omega.{arith}
+use lib.ListN.{length}
+use Rattle.sheet.specs.Tabulate.{copiedAt}
+use Rattle.sheet.proofs.Filling.{Filling, fill-start, copy-store, copy-done}
 use Rattle.sheet.proofs.copy.Statement.{statement}
 use Rattle.sheet.proofs.copy.Tie as tie
 
 abbrev Inv-loop : tie.InvT-loop
-Inv-loop src dst₀ i₀ dst i = Filling (λ k. getD src k 0) dst₀ dst i
+Inv-loop src dst₀ n i₀ dst i = Filling (copiedAt src dst₀) dst₀ dst i × (i ≤ min (length src) (length dst₀)) × (n ≡ min (length src) (length dst₀))
 
 abbrev μ-loop : tie.MeasureT-loop
-μ-loop src dst₀ i₀ dst i = length dst₀ - i
+μ-loop src dst₀ n i₀ dst i = n - i
+
+shorter-requires : tie.Need-shorter-requires Inv-loop μ-loop
+shorter-requires c κs = search needs
 
 loop-holds : tie.Need-loop-holds Inv-loop μ-loop
-loop-holds c = fill-start _ _
+loop-holds c = (fill-start _ _, search needs, c .shorter .ensures)
 
 shared-slice-read-dst : tie.Need-shared-slice-read-dst Inv-loop μ-loop
 shared-slice-read-dst c = search needs
@@ -30,13 +34,19 @@ loop-less : tie.Need-loop-less Inv-loop μ-loop
 loop-less c = search needs
 
 loop-again : tie.Need-loop-again Inv-loop μ-loop
-loop-again c = fill-store _ (c .before .before .loop .inv) (c .before .loop-test .taken) refl
+loop-again c =
+    let inv = c .before .before .loop .inv in
+    let a = c .before .before .before .before .before .before .args in
+    (copy-store (a .src .now) (a .dst .now) (inv .0) (omega arith), search needs, inv .2)
 
 same-length : tie.Need-same-length Inv-loop μ-loop
 same-length c = search needs
 
 returns : tie.Need-returns Inv-loop μ-loop
-returns c = fill-done (c .before .loop .inv) (c .loop-test .left) refl ∙ tabulate-self _ _ (c .before .before .pre)
+returns c =
+    let inv = c .before .loop .inv in
+    let a = c .before .before .before .before .before .args in
+    copy-done (a .src .now) (a .dst .now) (inv .0) (omega arith)
 
 pub copy-spec : {M : Type 1} → statement M
 copy-spec =
@@ -44,6 +54,7 @@ copy-spec =
     (tie.spec
     Inv-loop
     μ-loop
+    shorter-requires
     loop-holds
     shared-slice-read-dst
     slice-write-dst

@@ -1,23 +1,8 @@
 -- `is_finite` meets its contract: the finite are what lies strictly between the infinities. Assumes nothing.
-use mathlib.Core.Path.{_≡_, refl, sym}
-use mathlib.Core.Bool.{true, false}
-use lib.Ieee.{Float, nan, inf, fin, lt, ofBits, nanBits}
-use lib.Ieee.Scale.{finite}
+use lib.Ieee.{ofBits, nanBits}
+use Rattle.floats.proofs.FiniteTests.{above-lowest, not-above}
 use Rattle.floats.proofs.order.is_finite.Statement.{statement}
 use Rattle.floats.proofs.order.is_finite.Tie as tie
-
-above-lowest : (x : Float) → lt (inf true) x ≡ true → lt x (inf false) ≡ finite x
-unfolding lt
-above-lowest nan h = refl
-above-lowest (inf true) h = sym h
-above-lowest (inf false) h = refl
-above-lowest (fin s m e) h = refl
-
-not-above : (x : Float) → lt (inf true) x ≡ false → false ≡ finite x
-unfolding lt
-not-above nan h = refl
-not-above (inf s) h = refl
-not-above (fin s m e) h = sym h
 
 float-from-bits-if1 : tie.Need-float-from-bits-if1
 unfolding nanBits

@@ -15,7 +15,7 @@ use mir.Syntax.{w32}
 use mir.Val.{toZ, ofZ}
 use mir.ValLaws.{toZ-ofZ}
 use Rattle.floats.specs.Round.{away, roundTo}
-use Rattle.floats.specs.Steps.{signedBy}
+use Rattle.floats.specs.inner.Steps.{signedBy}
 use Rattle.floats.proofs.round.round_to_i32.Statement.{statement}
 use Rattle.floats.proofs.round.round_to_i32.Tie as tie
 

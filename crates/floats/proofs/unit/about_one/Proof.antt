@@ -41,12 +41,16 @@ rest c =
     let s = c .before .before in
     subst (λ (k : Float). Left (s .args .hi) (held s) (s .pre .0) 1025 (sub binary64 k (s .args .hi))) (sym upper-is) (upper-less (s .args .hi) (held s) (s .pre .0) (fair c) (under (c .before)))
 
-short : (c : tie.Then4) → T (le (c .before .before .before .before .before .args .hi) lower)
-short c = subst (λ (k : Float). T (le (c .before .before .before .before .before .args .hi) k)) lower-is (T-true (c .if4 .taken))
+-- the start, from the test of the largest square by 1023 / 1024
+abbrev start : tie.Then4 → tie.Start
+start c = c .before .before .before .before .before
 
-rest2 : (c : tie.Then4) → Left (c .before .before .before .before .before .args .hi) (held (c .before .before .before .before .before)) (c .before .before .before .before .before .pre .0) 1023 (sub binary64 (ofBits binary64 4607173622706995200) (c .before .before .before .before .before .args .hi))
+short : (c : tie.Then4) → T (le (start c .args .hi) lower)
+short c = subst (λ (k : Float). T (le (start c .args .hi) k)) lower-is (T-true (c .if4 .taken))
+
+rest2 : (c : tie.Then4) → Left (start c .args .hi) (held (start c)) (start c .pre .0) 1023 (sub binary64 (ofBits binary64 4607173622706995200) (start c .args .hi))
 rest2 c =
-    let s = c .before .before .before .before .before in
+    let s = start c in
     subst (λ (k : Float). Left (s .args .hi) (held s) (s .pre .0) 1023 (sub binary64 k (s .args .hi))) (sym lower-is) (lower-less (s .args .hi) (held s) (s .pre .0) (fair (c .before .before .before)) (short c))
 
 sum-at-most-requires : tie.Need-sum-at-most-requires
@@ -56,7 +60,7 @@ sum-at-most-requires c κs =
 
 sum-at-least-requires : tie.Need-sum-at-least-requires
 sum-at-least-requires c κs =
-    let s = c .before .before .before .before .before in
+    let s = start c in
     (s .pre .1 .0, (s .pre .1 .1 .0, (rest2 c .flat, (s .pre .1 .1 .1 .0, le-trans (s .pre .1 .1 .1 .1) (le-trans (in-upper (s .args .hi) (held s) (s .pre .0) (under (c .before .before .before .before))) (mul-le-mul-right (2 ^ 1064) (lit≤ {m = 1025} {n = 2048} tt)))))))
 
 -- what `sum_at_most` found, of numbers
@@ -75,7 +79,7 @@ returns c =
 returns-2 : tie.Need-returns-2
 returns-2 c =
     let t = c .before in
-    let s = t .before .before .before .before .before in
+    let s = start t in
     let a = s .args in
     c .sum-at-least .ensures
     ∙ ap (λ (k : ℕ). leb k (U (a .mid) + U (a .lo))) (rest2 t .is)

@@ -7,7 +7,7 @@ use native.Mathlib.Omega.{arith}
 use lib.Dec.{T}
 use lib.Ieee.{Float, binary64, fits, le}
 use Rattle.floats.specs.Unit.{inUnits, aboutOne, squared}
-use Rattle.floats.specs.Steps.{plain}
+use Rattle.floats.specs.inner.Steps.{plain}
 use Rattle.floats.proofs.Tests.{T-true, T-false}
 use Rattle.floats.proofs.NearOne.{order-yes, order-no, one-unit, spread}
 use Rattle.floats.proofs.unit.finite_triple.Statement.{statement}

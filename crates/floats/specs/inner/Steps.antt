@@ -8,7 +8,8 @@ use lib.Ieee.{Float, nan, inf, fin, binary32, binary64, up, down, mul, toUnsigne
 use lib.Ieee.Positive.{num, den}
 use Rattle.floats.specs.Round.{away, roundTo}
 use Rattle.floats.specs.Unit.{inUnits}
-use Rattle.floats.specs.Channel.{c255, fromNormalized}
+use Rattle.floats.specs.Channel.{fromNormalized}
+use Rattle.floats.specs.Constants.{c255}
 
 -- finite, and not negative (nor -0)
 abbrev pub plain : Float → Bool
@@ -39,7 +40,7 @@ unfoldable pub signedBy : Bool → ℕ → ℤ
 signedBy s n = cond s (negℤ (pos (min n 2147483648))) (pos (min n 2147483647))
 
 -- r is |x|, cut to 2 ^ 31, so far as `roundTo 31` can tell; s is x's sign
-pub record Sized (s : Bool) (x r : Float) : Type 0 where
+pub record Magnitude (s : Bool) (x r : Float) : Type 0 where
   pub inside : T (upTo 2147483648 r)
   pub same : signedBy s (away (num r) (den r)) ≡ roundTo 31 x
 

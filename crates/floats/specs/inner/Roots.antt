@@ -1,0 +1,30 @@
+-- Words of the square roots' private contracts.
+use Prim.Native.Nat.{ℕ, _+_, _-_, _*_, _^_, _≤_, _<_}
+use mathlib.Core.Path.{_≡_}
+use mathlib.Core.Bool.{false}
+use lib.Ieee.{Format, prec, emax, low, ofBits}
+use lib.Ieee.Exact.{HasValue}
+
+-- q is the whole number nearest to √n: (q - 1 / 2)² < n < (q + 1 / 2)²
+pub record Near (n q : ℕ) : Type 0 where
+  pub above : q * q < n + q
+  pub under : n ≤ q * q + q
+
+-- p is the square of root and a rest, and root is the whole part of its root
+pub record Rooted (p root rest : ℕ) : Type 0 where
+  pub square : p ≡ root * root + rest
+  pub small : rest ≤ 2 * root
+
+-- q is the root of n * 4 ^ s, rounded to the digits of the format
+pub record RootDigits (f : Format) (n q s : ℕ) : Type 0 where
+  pub nearest-root : Near (n * 4 ^ s) q
+  pub least : 2 ^ (prec f - 1) * 2 ^ (prec f - 1) ≤ n * 4 ^ s
+  pub most : n * 4 ^ s < 2 ^ prec f * 2 ^ prec f
+  pub few : s < prec f
+
+-- the pattern b of a positive finite value stands for m * 2 ^ e of the format's smallest value
+pub record Unpacked (f : Format) (b m e : ℕ) : Type 0 where
+  pub value : HasValue (ofBits f b) false (m * 2 ^ e) (2 ^ low f)
+  pub some : 0 < m
+  pub digits : m < 2 ^ prec f
+  pub few : e < 2 * emax f
