@@ -1,3 +1,5 @@
 mod Bytes
 mod Twenty
 pub mod Reading
+pub mod Unchanged
+pub mod Needed

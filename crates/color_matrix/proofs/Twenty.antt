@@ -16,8 +16,8 @@ use Rattle.color_matrix.specs.ColorMatrix.{twentyAnswer}
 module _ (m : Numbers) (pool : List Float) (e : twentyAnswer m pool ≡ Done) where
   pub twenty-in : isIn m (length pool) ≡ true
   unfolding twentyAnswer
-  twenty-in = range-in m pool (cond-done (eqb (m .length) 20) (rangeAnswer m pool) _ e .1)
+  twenty-in = range-in m pool (cond-done (eqb (m .count) 20) (rangeAnswer m pool) _ e .1)
 
   pub twenty-numbers : length (numbersOf m pool) ≡ 20
   unfolding twentyAnswer
-  twenty-numbers = length-numbers m pool twenty-in ∙ eqb-true (m .length) 20 (cond-done (eqb (m .length) 20) (rangeAnswer m pool) _ e .0)
+  twenty-numbers = length-numbers m pool twenty-in ∙ eqb-true (m .count) 20 (cond-done (eqb (m .count) 20) (rangeAnswer m pool) _ e .0)

@@ -1,7 +1,8 @@
--- The nine numbers of Saturate and HueRotate, in the Rust's order. Definitions only.
+-- The nine numbers of Saturate and HueRotate, in the Rust's order.
 use mathlib.Core.Bool.{cond}
 use mathlib.Core.List.{List, [], _∷_}
 use lib.Ieee.{Float, binary32, ofBits, lt}
+use Rattle.floats.specs.Constants.{c0}
 use Rattle.floats.specs.Operators.{_⊕_, _⊖_, _⊗_}
 
 -- 0.213, 0.787 and so on
@@ -34,7 +35,7 @@ p283 = ofBits binary32 0x3e90e560
 
 -- the larger of v and 0
 abbrev pub atLeastZero : Float → Float
-atLeastZero v = cond (lt (ofBits binary32 0) v) v (ofBits binary32 0)
+atLeastZero v = cond (lt c0 v) v c0
 
 -- of v, at least 0
 abbrev pub saturation : Float → List Float

@@ -1,4 +1,4 @@
--- What the colour matrix answers, and what byte k of its result is. Definitions only.
+-- What the colour matrix answers, and what byte k of its result is.
 use Prim.Native.Nat.{ℕ, _+_, _*_, _/_, _%_}
 use mathlib.Core.Bool.{cond}
 use mathlib.Core.List.{List, [], _∷_}
@@ -8,10 +8,9 @@ use lib.Ieee.{Float}
 use lib.Ieee.Scale.{finite}
 use Rattle.floats.specs.Channel.{normalized, fromNormalized}
 use Rattle.floats.specs.Unit.{unitPair}
-use Rattle.sheet.specs.declared.Refusal.the-variants.{Shape, NotFinite, Range}
 use Rattle.sheet.specs.declared.Answer.{Answer}
 use Rattle.sheet.specs.declared.Answer.the-variants.{Done}
-use Rattle.sheet.specs.Answer.{refused, andThen}
+use Rattle.sheet.specs.Answer.{refusal, andThen}
 use Rattle.sheet.specs.Size.{sheetsAnswer}
 use Rattle.sheet.specs.Tabulate.{tabulate}
 use Rattle.pool.specs.declared.Numbers.{Numbers}
@@ -24,13 +23,13 @@ use Rattle.color_matrix.specs.Coefficients.{atLeastZero, saturation, rot
 
 -- ---- tests 3, 4 and 5
 unfoldable pub twentyAnswer : Numbers → List Float → Answer
-twentyAnswer m pool = cond (eqb (m .length) 20) (rangeAnswer m pool) (refused Shape)
+twentyAnswer m pool = cond (eqb (m .count) 20) (rangeAnswer m pool) (refusal 3)
 
 unfoldable pub saturateAnswer : Float → Answer
 saturateAnswer v = numbersAnswer (v ∷ [])
 
 unfoldable pub rotationAnswer : Float → Float → Answer
-rotationAnswer c s = cond (finite c) (cond (finite s) (cond (unitPair c s) Done (refused Range)) (refused NotFinite)) (refused NotFinite)
+rotationAnswer c s = cond (finite c) (cond (finite s) (cond (unitPair c s) Done (refusal 5)) (refusal 4)) (refusal 4)
 
 abbrev pub matrixAnswer : ColorMatrix → List Float → Answer
 matrixAnswer (Matrix m) pool = twentyAnswer m pool
@@ -52,30 +51,39 @@ componentsAt s k = record {
   a = normalized (getD s (4 * (k / 4) + 3) 0);
 }
 
--- a matrix of four rows and five columns
+-- a matrix of four rows and five columns: the value of byte k before it is brought to 0 to 1, and byte k
+abbrev pub matrixValue : List Float → List ℕ → ℕ → Float
+matrixValue m s k = sum (rowOf m (k % 4)) (componentsAt s k)
+
 abbrev pub matrixAt : List Float → List ℕ → ℕ → ℕ
-matrixAt m s k = fromNormalized (sum (rowOf m (k % 4)) (componentsAt s k))
+matrixAt m s k = fromNormalized (matrixValue m s k)
 
 unfoldable pub matrixed : List Float → List ℕ → List ℕ
 matrixed m s = tabulate (length s) (matrixAt m s)
 
--- a matrix of the three colours; alpha is kept
+-- a matrix of the three colours: the value of a colour before it is brought to 0 to 1, and byte k; alpha is kept
+abbrev pub colourValue : List Float → List ℕ → ℕ → Float
+colourValue m s k = colourSum (colourRowOf m (k % 4)) (componentsAt s k)
+
 abbrev pub colourAt : List Float → List ℕ → ℕ → ℕ
-colourAt m s k = cond (eqb (k % 4) 3) (getD s k 0) (fromNormalized (colourSum (colourRowOf m (k % 4)) (componentsAt s k)))
+colourAt m s k = cond (eqb (k % 4) 3) (getD s k 0) (fromNormalized (colourValue m s k))
 
 unfoldable pub coloured : List Float → List ℕ → List ℕ
 coloured m s = tabulate (length s) (colourAt m s)
 
--- no colour, and the luminance as alpha
+-- no colour, and the luminance as alpha: alpha's value before it is brought to 0 to 1, and byte k
+abbrev pub luminanceValue : List ℕ → ℕ → Float
+luminanceValue s k = colourSum luminance (componentsAt s k)
+
 abbrev pub luminanceAt : List ℕ → ℕ → ℕ
-luminanceAt s k = cond (eqb (k % 4) 3) (fromNormalized (colourSum luminance (componentsAt s k))) 0
+luminanceAt s k = cond (eqb (k % 4) 3) (fromNormalized (luminanceValue s k)) 0
 
 unfoldable pub luminanceToAlpha : List ℕ → List ℕ
 luminanceToAlpha s = tabulate (length s) (luminanceAt s)
 
 -- the result
-abbrev pub filtered : ColorMatrix → List Float → List ℕ → List ℕ
-filtered (Matrix m) pool s = matrixed (numbersOf m pool) s
-filtered (Saturate v) pool s = coloured (saturation (atLeastZero v)) s
-filtered (HueRotate c n) pool s = coloured (rotation c n) s
-filtered LuminanceToAlpha pool s = luminanceToAlpha s
+abbrev pub recoloured : ColorMatrix → List Float → List ℕ → List ℕ
+recoloured (Matrix m) pool s = matrixed (numbersOf m pool) s
+recoloured (Saturate v) pool s = coloured (saturation (atLeastZero v)) s
+recoloured (HueRotate c n) pool s = coloured (rotation c n) s
+recoloured LuminanceToAlpha pool s = luminanceToAlpha s

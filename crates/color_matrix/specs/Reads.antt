@@ -1,4 +1,4 @@
--- What one byte of the result reads: all four channels of its pixel. Definitions only.
+-- What one byte of the result reads: all four channels of its pixel.
 use Prim.Native.Nat.{ℕ, _/_}
 use mathlib.Core.Path.{_≡_}
 

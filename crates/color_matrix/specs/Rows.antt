@@ -1,4 +1,4 @@
--- A pixel's channels from 0 to 1, and a matrix's rows applied to them, in the Rust's order. Definitions only.
+-- A pixel's channels from 0 to 1, and a matrix's rows applied to them, in the Rust's order.
 use Prim.Native.Nat.{ℕ, _+_, _*_}
 use mathlib.Core.List.{List}
 use lib.ListN.{getD}
@@ -20,22 +20,22 @@ componentsOf p = record {
 }
 
 -- number i of a matrix
-abbrev pub entry : List Float → ℕ → Float
-entry m i = getD m i nan
+abbrev pub numberAt : List Float → ℕ → Float
+numberAt m i = getD m i nan
 
 -- row i of a matrix of five columns
 abbrev pub rowOf : List Float → ℕ → Row
 rowOf m i = record {
-  r = entry m (5 * i);
-  g = entry m (5 * i + 1);
-  b = entry m (5 * i + 2);
-  a = entry m (5 * i + 3);
-  added = entry m (5 * i + 4);
+  r = numberAt m (5 * i);
+  g = numberAt m (5 * i + 1);
+  b = numberAt m (5 * i + 2);
+  a = numberAt m (5 * i + 3);
+  added = numberAt m (5 * i + 4);
 }
 
 -- row i of a matrix of three columns
 abbrev pub colourRowOf : List Float → ℕ → ColourRow
-colourRowOf m i = record { r = entry m (3 * i); g = entry m (3 * i + 1); b = entry m (3 * i + 2) }
+colourRowOf m i = record { r = numberAt m (3 * i); g = numberAt m (3 * i + 1); b = numberAt m (3 * i + 2) }
 
 -- r m₀ + g m₁ + b m₂
 unfoldable pub colourSum : ColourRow → Components → Float

@@ -3,6 +3,9 @@ mod coefficients;
 mod loops;
 mod pixel;
 
+pub use pixel::ColourRow;
+pub use pixel::Components;
+pub use pixel::Row;
 use pool::Numbers;
 use sheet::Answer;
 use sheet::Refusal;
@@ -11,7 +14,7 @@ ghost use Prim.Native.Nat.{_%_};
 ghost use lib.ListN.{length};
 ghost use Rattle.sheet.specs.declared.Answer.the-variants.{Done};
 ghost use Rattle.sheet.specs.Contract.{was, Filtered};
-ghost use Rattle.color_matrix.specs.ColorMatrix.{twentyAnswer, saturateAnswer, rotationAnswer, matrixAnswer, answer, filtered};
+ghost use Rattle.color_matrix.specs.ColorMatrix.{twentyAnswer, saturateAnswer, rotationAnswer, matrixAnswer, answer, recoloured};
 
 // What to apply. The twenty numbers of a Matrix stand in a lent pool; HueRotate takes a cosine and a sine.
 pub enum ColorMatrix {
@@ -47,7 +50,7 @@ fn test_saturate(v: f32) -> Answer
 fn test_matrix(numbers: Numbers, pool: &[f32]) -> Answer
     ensures { λ r. ⌜ r ≡ twentyAnswer numbers (now (pool .entry)) ⌝ }
 {
-    if numbers.length != 20 {
+    if numbers.count != 20 {
         return Answer::Refused(Refusal::Shape, 0);
     }
     pool::test_range(numbers, pool)
@@ -69,7 +72,7 @@ pub fn test(matrix: ColorMatrix, pool: &[f32]) -> Answer
 fn apply_tested(matrix: ColorMatrix, pool: &[f32], src: &mut [u8])
     requires { ⌜ matrixAnswer matrix (now pool) ≡ Done ⌝ }
     requires { ⌜ length (now src) % 4 ≡ 0 ⌝ }
-    ensures { λ _. ⌜ now (src .exit) ≡ filtered matrix (now (pool .entry)) (now (src .entry)) ⌝ }
+    ensures { λ _. ⌜ now (src .exit) ≡ recoloured matrix (now (pool .entry)) (now (src .entry)) ⌝ }
 {
     match matrix {
         ColorMatrix::Matrix(numbers) => loops::matrix(pool::part(numbers, pool), src),
@@ -95,15 +98,15 @@ pub fn apply(
     height: usize,
     src: &mut [u8],
 ) -> Answer
-    ensures { λ r. ⌜ Filtered (answer matrix (now (pool .entry)) width height (was src)) r (filtered matrix (now (pool .entry)) (was src)) src ⌝ }
+    ensures { λ r. ⌜ Filtered (answer matrix (was pool) width height (was src)) r (recoloured matrix (was pool) (was src)) src ⌝ }
 {
-    let tested = sheet::test1(width, height, src.len());
+    let sheets = sheet::test1(width, height, src.len());
+    let Answer::Done = sheets else {
+        return sheets;
+    };
+    let tested = test(matrix, pool);
     let Answer::Done = tested else {
         return tested;
-    };
-    let numbers = test(matrix, pool);
-    let Answer::Done = numbers else {
-        return numbers;
     };
     apply_tested(matrix, pool, src);
     Answer::Done

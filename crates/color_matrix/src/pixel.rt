@@ -4,8 +4,9 @@ ghost use mathlib.Core.Path.{_≡_};
 ghost use Prim.Native.Nat.{_+_, _*_, _<_};
 ghost use lib.ListN.{length};
 ghost use Rattle.floats.specs.Channel.{fromNormalized};
-ghost use Rattle.sheet.specs.Pixel.{channel, Channels};
+ghost use Rattle.sheet.specs.Pixel.{Channels};
 ghost use Rattle.color_matrix.specs.Rows as Rows;
+ghost use Rattle.color_matrix.specs.inner.Pixels.{byColourRow, ByMatrix, ByColours};
 
 // A pixel's channels, each from 0 to 1.
 pub struct Components {
@@ -35,10 +36,10 @@ pub fn to_normalized_components(pixel: Straight) -> Components
     ensures { λ r. ⌜ r ≡ Rows.componentsOf (pixel .0) ⌝ }
 {
     Components {
-        r: floats::normalized(sheet::pixel::red(pixel.0)),
-        g: floats::normalized(sheet::pixel::green(pixel.0)),
-        b: floats::normalized(sheet::pixel::blue(pixel.0)),
-        a: floats::normalized(sheet::pixel::alpha(pixel.0)),
+        r: floats::normalized(pixel.red()),
+        g: floats::normalized(pixel.green()),
+        b: floats::normalized(pixel.blue()),
+        a: floats::normalized(pixel.alpha()),
     }
 }
 
@@ -86,28 +87,28 @@ fn colour_applied(row: ColourRow, c: Components) -> u8
 
 // A matrix of four rows applied to a pixel.
 pub fn matrix_pixel(r: Row, g: Row, b: Row, a: Row, pixel: Straight) -> Straight
-    ensures { λ p. ⌜ Channels (p .0) (fromNormalized (Rows.sum r (Rows.componentsOf (pixel .0)))) (fromNormalized (Rows.sum g (Rows.componentsOf (pixel .0)))) (fromNormalized (Rows.sum b (Rows.componentsOf (pixel .0)))) (fromNormalized (Rows.sum a (Rows.componentsOf (pixel .0)))) ⌝ }
+    ensures { λ p. ⌜ ByMatrix r g b a (pixel .0) (p .0) ⌝ }
 {
     let c = to_normalized_components(pixel);
-    Straight(sheet::pixel::pixel_of(applied(r, c), applied(g, c), applied(b, c), applied(a, c)))
+    Straight::of(applied(r, c), applied(g, c), applied(b, c), applied(a, c))
 }
 
 // A matrix of colours applied to a pixel, which keeps its alpha.
 pub fn colour_pixel(r: ColourRow, g: ColourRow, b: ColourRow, pixel: Straight) -> Straight
-    ensures { λ p. ⌜ Channels (p .0) (fromNormalized (Rows.colourSum r (Rows.componentsOf (pixel .0)))) (fromNormalized (Rows.colourSum g (Rows.componentsOf (pixel .0)))) (fromNormalized (Rows.colourSum b (Rows.componentsOf (pixel .0)))) (channel 3 (pixel .0)) ⌝ }
+    ensures { λ p. ⌜ ByColours r g b (pixel .0) (p .0) ⌝ }
 {
     let c = to_normalized_components(pixel);
-    Straight(sheet::pixel::pixel_of(
+    Straight::of(
         colour_applied(r, c),
         colour_applied(g, c),
         colour_applied(b, c),
-        sheet::pixel::alpha(pixel.0),
-    ))
+        pixel.alpha(),
+    )
 }
 
 // A pixel without colour whose alpha is the luminance of a pixel.
 pub fn luminance_pixel(pixel: Straight) -> Straight
-    ensures { λ p. ⌜ Channels (p .0) 0 0 0 (fromNormalized (Rows.colourSum Rows.luminance (Rows.componentsOf (pixel .0)))) ⌝ }
+    ensures { λ p. ⌜ Channels (p .0) 0 0 0 (byColourRow Rows.luminance (pixel .0)) ⌝ }
 {
     let c = to_normalized_components(pixel);
     let luminance = ColourRow {
@@ -115,5 +116,5 @@ pub fn luminance_pixel(pixel: Straight) -> Straight
         g: 0.7154,
         b: 0.0721,
     };
-    Straight(sheet::pixel::pixel_of(0, 0, 0, colour_applied(luminance, c)))
+    Straight::of(0, 0, 0, colour_applied(luminance, c))
 }

@@ -11,8 +11,8 @@ use lib.Ieee.{Float}
 use Rattle.sheet.specs.declared.Refusal.{Refusal}
 use Rattle.sheet.specs.declared.Answer.{Answer}
 use Rattle.sheet.specs.declared.Answer.the-variants.{Done, Refused}
-use Rattle.sheet.specs.Answer.{refusalNumber, number, onDone}
-use Rattle.sheet.proofs.Answers.{cond-done}
+use Rattle.sheet.specs.Answer.{refusalNumber, number, IsRefusal}
+use Rattle.sheet.proofs.Answers.{stays, cond-done}
 use Rattle.pool.specs.declared.Numbers.{Numbers}
 use Rattle.pool.specs.Pool.{isIn, numbersOf, rangeAnswer}
 use Rattle.pool.proofs.Ranges.{range-in, length-numbers}
@@ -32,14 +32,14 @@ both-pass (Refused r i) (Refused s j) e = go (leb (refusalNumber r) (refusalNumb
     go false e = never s j e
 
 -- ---- of two answers
-pub together-first : (p q : Answer) → ((x y : Answer) → onDone p x y ≡ y) → q ≡ Done → p ≡ together p q
+pub together-first : (p q : Answer) → IsRefusal p → q ≡ Done → p ≡ together p q
 unfolding together
-together-first p q hp d = sym (hp _ _ ∙ rw d)
+together-first p q hp d = sym (stays p hp _ _ ∙ rw d)
 
-module _ (p q : Answer) {m n : ℕ} (hp : (x y : Answer) → onDone p x y ≡ y) (hq : (x y : Answer) → onDone q x y ≡ y) (e : m ≡ number p) (f : n ≡ number q) where
+module _ (p q : Answer) {m n : ℕ} (hp : IsRefusal p) (hq : IsRefusal q) (e : m ≡ number p) (f : n ≡ number q) where
   by-numbers : cond (leb m n) p q ≡ together p q
   unfolding together
-  by-numbers = ap (λ t. cond t p q) (ap (λ x. leb x n) e ∙ ap (leb (number p)) f) ∙ sym (hp _ _ ∙ hq _ _)
+  by-numbers = ap (λ t. cond t p q) (ap (λ x. leb x n) e ∙ ap (leb (number p)) f) ∙ sym (stays p hp _ _ ∙ stays q hq _ _)
 
   pub together-lower : m ≤ n → p ≡ together p q
   together-lower l = sym (ap (λ t. cond t p q) (le-leb m n l)) ∙ by-numbers
@@ -61,17 +61,17 @@ unfolding functionsAnswer together
 all-pass e f g h = rw (e, f, g, h)
 
 module _ (m : Numbers) (pool : List Float) (e : entriesAnswer m pool ≡ Done) where
-  pub entries-in : isIn m (length pool) ≡ true
+  entries-in : isIn m (length pool) ≡ true
   unfolding entriesAnswer
-  entries-in = range-in m pool (cond-done (leb (m .length) 256) (rangeAnswer m pool) _ e .1)
+  entries-in = range-in m pool (cond-done (leb (m .count) 256) (rangeAnswer m pool) _ e .1)
 
-  few : m .length ≤ 256
+  few : m .count ≤ 256
   unfolding entriesAnswer
-  few = leb-true (m .length) 256 (cond-done (leb (m .length) 256) (rangeAnswer m pool) _ e .0)
+  few = leb-true (m .count) 256 (cond-done (leb (m .count) 256) (rangeAnswer m pool) _ e .0)
 
-  pub entries-count : eqb (m .length) 0 ≡ false → (0 < length (numbersOf m pool)) × (length (numbersOf m pool) ≤ 256)
+  pub entries-count : eqb (m .count) 0 ≡ false → (0 < length (numbersOf m pool)) × (length (numbersOf m pool) ≤ 256)
   entries-count n =
       let l = length-numbers m pool entries-in in
-      let z = eqb-false (m .length) 0 n in
+      let z = eqb-false (m .count) 0 n in
       let f = few in
       (omega arith, omega arith)

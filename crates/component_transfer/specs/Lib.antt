@@ -1,3 +1,4 @@
 pub mod Functions
 pub mod ComponentTransfer
 pub mod Reads
+pub mod inner

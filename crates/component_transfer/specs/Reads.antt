@@ -1,4 +1,4 @@
--- What one byte of the result reads: its own channel there. Definitions only.
+-- What one byte of the result reads: its own channel there.
 use Prim.Native.Nat.{ℕ}
 use mathlib.Core.Path.{_≡_}
 

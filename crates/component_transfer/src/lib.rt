@@ -6,8 +6,8 @@ use pool::Numbers;
 use sheet::Answer;
 use sheet::Refusal;
 ghost use mathlib.Core.Path.{_≡_};
-ghost use Rattle.sheet.specs.Contract.{was, Filtered};
-ghost use Rattle.component_transfer.specs.ComponentTransfer.{entriesAnswer, linearAnswer, functionAnswer, functionsAnswer, answer, transferred, tested, byteOf};
+ghost use Rattle.sheet.specs.Contract.{Filtered};
+ghost use Rattle.component_transfer.specs.ComponentTransfer.{entriesAnswer, linearAnswer, functionAnswer, functionsAnswer, tested, lentAnswer, lentBytes};
 
 // What to do with a channel. The entries of a Table or a Discrete stand in a lent pool; Linear takes a slope
 // and an intercept. Identity and an empty table leave the channel alone.
@@ -19,12 +19,12 @@ pub enum TransferFunction {
 }
 
 // The most entries of a table.
-const ENTRY_LIMIT: usize = 256;
+const ENTRY_LIMIT: u32 = 256;
 
 fn test_entries(entries: Numbers, pool: &[f32]) -> Answer
     ensures { λ r. ⌜ r ≡ entriesAnswer entries (now (pool .entry)) ⌝ }
 {
-    if ENTRY_LIMIT < entries.length {
+    if ENTRY_LIMIT < entries.count {
         return Answer::Refused(Refusal::Shape, 0);
     }
     pool::test_range(entries, pool)
@@ -110,15 +110,15 @@ pub fn apply(
     height: usize,
     src: &mut [u8],
 ) -> Answer
-    ensures { λ n. ⌜ Filtered (answer (tested r reds) (tested g greens) (tested b blues) (tested a alphas) width height (was src)) n (transferred (byteOf r reds) (byteOf g greens) (byteOf b blues) (byteOf a alphas) (was src)) src ⌝ }
+    ensures { λ n. ⌜ Filtered (lentAnswer r reds g greens b blues a alphas width height src) n (lentBytes r reds g greens b blues a alphas src) src ⌝ }
 {
-    let sized = sheet::test1(width, height, src.len());
-    let Answer::Done = sized else {
-        return sized;
+    let sheets = sheet::test1(width, height, src.len());
+    let Answer::Done = sheets else {
+        return sheets;
     };
-    let functions = test(r, reds, g, greens, b, blues, a, alphas);
-    let Answer::Done = functions else {
-        return functions;
+    let tested = test(r, reds, g, greens, b, blues, a, alphas);
+    let Answer::Done = tested else {
+        return tested;
     };
     lookup::transfer_all(r, reds, g, greens, b, blues, a, alphas, src);
     Answer::Done

@@ -4,11 +4,11 @@ use crate::functions;
 use sheet::pixel::Straight;
 ghost use mathlib.Core.Path.{_≡_};
 ghost use Prim.Native.Nat.{_%_};
-ghost use lib.ListN.{length, getD};
+ghost use lib.ListN.{length};
 ghost use Rattle.sheet.specs.declared.Answer.the-variants.{Done};
-ghost use Rattle.sheet.specs.Pixel.{channel, Channels};
 ghost use Rattle.sheet.specs.Tabulate.{tabulate};
 ghost use Rattle.component_transfer.specs.ComponentTransfer.{functionAnswer, transfer, transferred, byteOf};
+ghost use Rattle.component_transfer.specs.inner.Lookup.{LookedUp};
 
 // A function's byte for every byte.
 fn every_byte(f: TransferFunction, pool: &[f32]) -> [u8; 256]
@@ -38,14 +38,14 @@ fn looked_up(
     a: &[u8; 256],
     pixel: Straight,
 ) -> Straight
-    ensures { λ p. ⌜ Channels (p .0) (getD (now (r .entry)) (channel 0 (pixel .0)) 0) (getD (now (g .entry)) (channel 1 (pixel .0)) 0) (getD (now (b .entry)) (channel 2 (pixel .0)) 0) (getD (now (a .entry)) (channel 3 (pixel .0)) 0) ⌝ }
+    ensures { λ p. ⌜ LookedUp (now (r .entry)) (now (g .entry)) (now (b .entry)) (now (a .entry)) (pixel .0) (p .0) ⌝ }
 {
-    Straight(sheet::pixel::pixel_of(
-        r[wide(sheet::pixel::red(pixel.0))],
-        g[wide(sheet::pixel::green(pixel.0))],
-        b[wide(sheet::pixel::blue(pixel.0))],
-        a[wide(sheet::pixel::alpha(pixel.0))],
-    ))
+    Straight::of(
+        r[wide(pixel.red())],
+        g[wide(pixel.green())],
+        b[wide(pixel.blue())],
+        a[wide(pixel.alpha())],
+    )
 }
 
 // Transfers every pixel by functions that passed the tests.

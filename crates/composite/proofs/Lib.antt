@@ -1,2 +1,4 @@
 mod Bytes
 pub mod Reading
+pub mod Unchanged
+pub mod Needed

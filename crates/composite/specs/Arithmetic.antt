@@ -1,21 +1,23 @@
--- One channel of an arithmetic composition, in the Rust's order. Definitions only.
+-- One channel of an arithmetic composition, in the Rust's order.
 use Prim.Native.Nat.{ℕ}
 use mathlib.Core.Bool.{cond}
 use lib.Dec.{eqb}
-use lib.Ieee.{Float, binary32, ofBits, toUnsigned}
-use Rattle.floats.specs.Channel.{c255, normalized}
+use lib.Ieee.{Float, toUnsigned}
+use Rattle.floats.specs.Channel.{normalized}
+use Rattle.floats.specs.Constants.{c0, c1, c255}
 use Rattle.floats.specs.Operators.{_⊕_, _⊗_}
 use Rattle.floats.specs.Order.{nearZero, bound}
-use Rattle.sheet.specs.Pixel.{channel}
 use Rattle.composite.specs.declared.pixel.Factors.{Factors}
 
 abbrev pub factors : Float → Float → Float → Float → Factors
 factors k1 k2 k3 k4 = record { k1 = k1; k2 = k2; k3 = k3; k4 = k4 }
 
--- k1 i1 i2 + k2 i1 + k3 i2 + k4, within 0 and max
+-- k1 i1 i2 + k2 i1 + k3 i2 + k4, before it is brought to 0 to max
+abbrev pub calcValue : Factors → ℕ → ℕ → Float
+calcValue k c1 c2 = k .k1 ⊗ normalized c1 ⊗ normalized c2 ⊕ k .k2 ⊗ normalized c1 ⊕ k .k3 ⊗ normalized c2 ⊕ k .k4
+
 unfoldable pub calc : Factors → ℕ → ℕ → Float → Float
-calc k c1 c2 max =
-    bound (ofBits binary32 0) (k .k1 ⊗ normalized c1 ⊗ normalized c2 ⊕ k .k2 ⊗ normalized c1 ⊕ k .k3 ⊗ normalized c2 ⊕ k .k4) max
+calc k c1 c2 max = bound c0 (calcValue k c1 c2) max
 
 -- the cut after the product with 255
 unfoldable pub scaled : Float → ℕ
@@ -27,12 +29,8 @@ colour k c1 c2 a = scaled (calc k c1 c2 a)
 
 -- the new alpha of two alphas
 abbrev pub alphaOf : Factors → ℕ → ℕ → Float
-alphaOf k a1 a2 = calc k a1 a2 (ofBits binary32 0x3f800000)
+alphaOf k a1 a2 = calc k a1 a2 c1
 
 -- a channel of two channels, where the new alpha is a; 0 where a is near zero
 abbrev pub channelOf : ℕ → Factors → ℕ → ℕ → Float → ℕ
 channelOf c k c1 c2 a = cond (nearZero a) 0 (cond (eqb c 3) (scaled a) (colour k c1 c2 a))
-
--- channel c of the pixels of numbers p1 and p2
-abbrev pub byte : ℕ → Factors → ℕ → ℕ → ℕ
-byte c k p1 p2 = channelOf c k (channel c p1) (channel c p2) (alphaOf k (channel 3 p1) (channel 3 p2))

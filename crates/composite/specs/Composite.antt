@@ -1,4 +1,4 @@
--- What arithmetic composition answers, and what byte k of its result is. Definitions only.
+-- What arithmetic composition answers, and what byte k of its result is.
 use Prim.Native.Nat.{ℕ, _+_, _*_, _/_, _%_}
 use mathlib.Core.List.{List, [], _∷_}
 use lib.ListN.{length, getD}

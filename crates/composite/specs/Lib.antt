@@ -1,3 +1,4 @@
 pub mod Arithmetic
 pub mod Composite
 pub mod Reads
+pub mod inner

@@ -1,4 +1,4 @@
--- What one byte of the result reads in either input: its channel and alpha of its pixel. Definitions only.
+-- What one byte of the result reads in either input: its channel and alpha of its pixel.
 use Prim.Native.Nat.{ℕ, _+_, _*_, _/_}
 use mathlib.Core.Path.{_≡_}
 use mathlib.Core.Logic.{_⊎_}

@@ -1,7 +1,7 @@
 // Arithmetic composition, as resvg's composite.rs.
 mod pixel;
 
-use pixel::Factors;
+pub use pixel::Factors;
 use sheet::Answer;
 ghost use mathlib.Core.Path.{_≡_};
 ghost use Prim.Native.Nat.{_%_};
@@ -51,13 +51,10 @@ pub fn arithmetic(
 ) -> Answer
     ensures { λ r. ⌜ Filtered (answer k1 k2 k3 k4 width height (was src1) (was src2) (was dest)) r (composed (factors k1 k2 k3 k4) (was src1) (was src2)) dest ⌝ }
 {
-    let tested = sheet::test3(width, height, src1.len(), src2.len(), dest.len());
+    let sheets = sheet::test3(width, height, src1.len(), src2.len(), dest.len());
+    let tested = sheet::and_then(sheets, test(k1, k2, k3, k4));
     let Answer::Done = tested else {
         return tested;
-    };
-    let numbers = test(k1, k2, k3, k4);
-    let Answer::Done = numbers else {
-        return numbers;
     };
     compose(Factors { k1, k2, k3, k4 }, src1, src2, dest);
     Answer::Done

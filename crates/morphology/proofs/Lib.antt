@@ -4,3 +4,6 @@ mod Signed
 mod Merging
 mod Spreading
 mod Passes
+pub mod Bounds
+pub mod Unchanged
+pub mod Needed

@@ -9,7 +9,7 @@ use lib.ListN.{length, getD, set, length-set}
 use lib.Seq.{getD-set-same, getD-set-other}
 use Rattle.morphology.specs.declared.operator.MorphologyOperator.{MorphologyOperator}
 use Rattle.morphology.specs.Extremum.{moreExtreme}
-use Rattle.morphology.specs.Lines.{Merged}
+use Rattle.morphology.specs.inner.Lines.{Merged}
 
 module _ (op : MorphologyOperator) (from : List ℕ) (other : ℕ) (into : List ℕ) (at : ℕ) where
   pub merged-none : Merged op from other into at 0 into

@@ -12,7 +12,7 @@ use Rattle.sheet.proofs.Places.{rows, place-inside, column-inside, row-inside, 
 use Rattle.sheet.proofs.Tabulated.{tabulated}
 use Rattle.morphology.specs.declared.operator.MorphologyOperator.{MorphologyOperator}
 use Rattle.morphology.specs.Extremum.{window}
-use Rattle.morphology.specs.Lines.{Lines, Spread, Rows, place}
+use Rattle.morphology.specs.inner.Lines.{Lines, Spread, Rows, place}
 use Rattle.morphology.specs.Morphology.{spreadAt, spreadOver}
 use Rattle.morphology.proofs.Windows.{window-ext}
 use Rattle.morphology.proofs.Spreading.{shift-inside}
@@ -27,7 +27,7 @@ module _ (op : MorphologyOperator) (r w h : ℕ) (src : List ℕ) where
     within = zero-le;
     same = ap length e;
     spread = λ x y c p q l. absurd (not-suc-le-zero q);
-    left = λ k l. ap (λ (s : List ℕ). getD s k 0) e;
+    rest = λ k l. ap (λ (s : List ℕ). getD s k 0) e;
   }
 
   module _ (y : ℕ) (d : List ℕ) (e : length src ≡ 4 * w * h) (before : Rows op r w h y src d) (q : y < h) where
@@ -35,14 +35,14 @@ module _ (op : MorphologyOperator) (r w h : ℕ) (src : List ℕ) where
     row-lines s =
         let l = shift-inside (4 * w) (y + 1) h (omega arith) in
         let n = next-row w y in
-        record { short = s; inside = omega arith; same = before .same; agree = λ k a b. before .left k a }
+        record { short = s; inside = omega arith; same = before .same; agree = λ k a b. before .rest k a }
 
     pub rows-more : (d′ : List ℕ) → Spread op r 4 w (4 * w * y) src d d′ → Rows op r w h (y + 1) src d′
     rows-more d′ s = record {
       within = omega arith;
       same = s .same ∙ before .same;
       spread = λ x y′ c p l m. ⊎-elim (λ z. here x y′ c p z m) (λ z. earlier x y′ c p z m) (eq-or-lt-of-le (le-of-suc-le-suc (let t : suc y′ ≤ suc y = omega arith in t)));
-      left = λ k l. let n = next-row w y in s .after k (omega arith) ∙ before .left k (omega arith);
+      rest = λ k l. let n = next-row w y in s .after k (omega arith) ∙ before .rest k (omega arith);
     }
       where
         earlier : (x y′ c : ℕ) → x < w → y′ < y → c < 4 → getD d′ (byteAt w x y′ c) 0 ≡ window op r w (λ u. getD src (byteAt w u y′ c) 0) x

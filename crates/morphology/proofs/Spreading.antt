@@ -6,7 +6,7 @@ use native.Mathlib.Nat.{mul-le-mul-left, mul-add, mul-suc}
 use native.Mathlib.Omega.{arith}
 use Rattle.morphology.specs.declared.operator.MorphologyOperator.{MorphologyOperator}
 use Rattle.morphology.specs.Extremum.{moreExtreme}
-use Rattle.morphology.specs.Lines.{Merged, Lines, Spread, place}
+use Rattle.morphology.specs.inner.Lines.{Merged, Lines, Spread, place}
 use Rattle.morphology.proofs.Windows.{window-none, window-more}
 
 -- a place before the end of a line lies before the end of all lines

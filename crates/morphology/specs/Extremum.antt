@@ -1,4 +1,4 @@
--- The extremum of bytes over a clipped window, one definition for both operators. Definitions only.
+-- The extremum of bytes over a clipped window, one definition for both operators.
 use Prim.Native.Nat.{ℕ, zero, suc, _+_, _-_, min, max}
 use Rattle.morphology.specs.declared.operator.MorphologyOperator.{MorphologyOperator}
 use Rattle.morphology.specs.declared.operator.MorphologyOperator.the-variants.{Dilate, Erode}

@@ -8,7 +8,7 @@ use sheet::Refusal;
 ghost use mathlib.Core.Path.{_≡_};
 ghost use Prim.Native.Nat.{_<_};
 ghost use Rattle.sheet.specs.Contract.{was, Filtered, Cleared};
-ghost use Rattle.morphology.specs.Morphology.{radius, radiiAnswer, answer, morphed, wholeOf};
+ghost use Rattle.morphology.specs.Morphology.{radius, radiiAnswer, answer, morphed, notNegative};
 
 // The largest radius.
 const RADIUS_LIMIT: f32 = 65536.0;
@@ -32,8 +32,8 @@ pub fn test(rx: f32, ry: f32) -> Answer
     Answer::Done
 }
 
-fn whole(n: i32) -> usize
-    ensures { λ r. ⌜ r ≡ wholeOf n ⌝ }
+fn not_negative(n: i32) -> usize
+    ensures { λ r. ⌜ r ≡ notNegative n ⌝ }
 {
     if n < 0 { 0 } else { n as usize }
 }
@@ -43,7 +43,7 @@ fn pixels(r: f32, side: usize) -> usize
     requires { ⌜ 0 < side ⌝ }
     ensures { λ n. ⌜ (n ≡ radius r side) × (n < side) ⌝ }
 {
-    let n = whole(floats::round_to_i32(r));
+    let n = not_negative(floats::round_to_i32(r));
     if n < side { n } else { side - 1 }
 }
 
@@ -60,15 +60,12 @@ pub fn apply(
     scratch: &mut [u8],
 ) -> Answer
     ensures { λ r. ⌜ Filtered (answer rx ry width height (was src) (was scratch)) r (morphed operator rx ry width height (was src)) src ⌝ }
-    ensures { λ r. ⌜ Cleared (answer rx ry width height (was src) (was scratch)) scratch ⌝ }
+    ensures { λ r. ⌜ Cleared 0 (answer rx ry width height (was src) (was scratch)) scratch ⌝ }
 {
-    let tested = sheet::test2(width, height, src.len(), scratch.len());
+    let sheets = sheet::test2(width, height, src.len(), scratch.len());
+    let tested = sheet::and_then(sheets, test(rx, ry));
     let Answer::Done = tested else {
         return tested;
-    };
-    let radii = test(rx, ry);
-    let Answer::Done = radii else {
-        return radii;
     };
     spread::spread_sheet(
         operator,

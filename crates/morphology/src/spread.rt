@@ -7,7 +7,7 @@ ghost use lib.ListN.{length};
 ghost use Rattle.sheet.specs.Size.{Sized};
 ghost use Rattle.sheet.specs.Tabulate.{zeros};
 ghost use Rattle.morphology.specs.Morphology.{spreadOver};
-ghost use Rattle.morphology.specs.Lines.{Merged, Lines, Spread, Rows};
+ghost use Rattle.morphology.specs.inner.Lines.{Merged, Lines, Spread, Rows};
 
 // Each of n bytes of `into`, from `at` on, becomes the more extreme of itself and the byte of `from` as far past `other`.
 fn merge(

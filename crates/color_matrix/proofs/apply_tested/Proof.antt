@@ -1,9 +1,9 @@
--- Each case is the loop of its kind, over the numbers of its kind.
+-- Each case is its own loop, over the numbers that it names.
 use borrow.Author.Needs.{needs}
 use mathlib.Core.Path.{sym, ap, _∙_}
 use lib.ListN.{length}
 use Rattle.color_matrix.specs.ColorMatrix.{matrixAnswer, matrixed, coloured}
-use Rattle.color_matrix.proofs.Twenty.{twenty-in, twenty-numbers}
+use Rattle.color_matrix.proofs.Twenty.{twenty-numbers}
 use Rattle.color_matrix.proofs.apply_tested.Statement.{statement}
 use Rattle.color_matrix.proofs.apply_tested.Tie as tie
 
@@ -11,10 +11,13 @@ enum-known-matrix : tie.Need-enum-known-matrix
 enum-known-matrix c = search needs
 
 part-requires : tie.Need-part-requires
-part-requires c κs = twenty-in _ _ (ap (λ x. matrixAnswer x (c .before .before .before .before .before .args .pool .now)) (sym (c .before .matrix .given .1)) ∙ c .before .before .before .before .before .pre .0)
+part-requires c κs = search needs
 
 matrix-requires : tie.Need-matrix-requires
-matrix-requires c κs = (ap length (c .before .part .ensures) ∙ twenty-numbers _ _ (ap (λ x. matrixAnswer x (c .before .before .before .before .before .before .before .args .pool .now)) (sym (c .before .before .before .matrix .given .1)) ∙ c .before .before .before .before .before .before .before .pre .0), c .before .before .before .before .before .before .before .pre .1)
+matrix-requires c κs =
+    let start = c .before .before .before .before .before .before .before in
+    let told = ap (λ m. matrixAnswer m (start .args .pool .now)) (sym (c .before .before .before .matrix .given .1)) in
+    (ap length (c .before .part .ensures) ∙ twenty-numbers _ _ (told ∙ start .pre .0), start .pre .1)
 
 enum-known-matrix-2 : tie.Need-enum-known-matrix-2
 enum-known-matrix-2 c = search needs
@@ -26,7 +29,7 @@ slice-aggregate-colours : tie.Need-slice-aggregate-colours
 slice-aggregate-colours c = search needs
 
 colours-requires : tie.Need-colours-requires
-colours-requires c κs = (ap length (c .before .before .saturation .ensures), c .before .before .before .before .before .before .before .before .pre .1)
+colours-requires c κs = search needs
 
 enum-known-matrix-3 : tie.Need-enum-known-matrix-3
 enum-known-matrix-3 c = search needs
@@ -38,31 +41,45 @@ slice-aggregate-colours-2 : tie.Need-slice-aggregate-colours-2
 slice-aggregate-colours-2 c = search needs
 
 colours-requires-2 : tie.Need-colours-requires-2
-colours-requires-2 c κs = (ap length (c .before .before .rotation .ensures), c .before .before .before .before .before .before .before .before .pre .1)
+colours-requires-2 c κs = search needs
 
 enum-told : tie.Need-enum-told
 enum-told c = search needs
 
 luminance-requires : tie.Need-luminance-requires
-luminance-requires c κs = c .before .before .before .before .before .pre .1
+luminance-requires c κs = search needs
 
 same-length : tie.Need-same-length
 same-length c = search needs
 
 returns : tie.Need-returns
-returns c = rw (c .before .before .before .before .before .before .matrix .given .1) (c .before .before .matrix2 .ensures ∙ ap (λ l. matrixed l (c .before .before .before .before .before .before .before .before .before .before .args .src .now)) (c .before .before .before .before .part .ensures))
+returns c =
+    let args = c .before .before .before .before .before .before .before .before .before .before .args in
+    let matrix = c .before .before .before .before .before .before .matrix in
+    let s = args .src .now in
+    rw (matrix .given .1) (c .before .before .matrix2 .ensures ∙ ap (λ l. matrixed l s) (c .before .before .before .before .part .ensures))
 
 same-length-2 : tie.Need-same-length-2
 same-length-2 c = search needs
 
 returns-2 : tie.Need-returns-2
-returns-2 c = rw (c .before .before .before .before .before .before .before .matrix3 .given .1) (c .before .before .colours .ensures ∙ ap (λ l. coloured l (c .before .before .before .before .before .before .before .before .before .before .before .args .src .now)) (c .before .before .before .before .before .saturation .ensures))
+returns-2 c =
+    let args = c .before .before .before .before .before .before .before .before .before .before .before .args in
+    let saturation = c .before .before .before .before .before .saturation in
+    let matrix3 = c .before .before .before .before .before .before .before .matrix3 in
+    let s = args .src .now in
+    rw (matrix3 .given .1) (c .before .before .colours .ensures ∙ ap (λ l. coloured l s) (saturation .ensures))
 
 same-length-3 : tie.Need-same-length-3
 same-length-3 c = search needs
 
 returns-3 : tie.Need-returns-3
-returns-3 c = rw (c .before .before .before .before .before .before .before .matrix4 .given .1) (c .before .before .colours2 .ensures ∙ ap (λ l. coloured l (c .before .before .before .before .before .before .before .before .before .before .before .args .src .now)) (c .before .before .before .before .before .rotation .ensures))
+returns-3 c =
+    let args = c .before .before .before .before .before .before .before .before .before .before .before .args in
+    let rotation = c .before .before .before .before .before .rotation in
+    let matrix4 = c .before .before .before .before .before .before .before .matrix4 in
+    let s = args .src .now in
+    rw (matrix4 .given .1) (c .before .before .colours2 .ensures ∙ ap (λ l. coloured l s) (rotation .ensures))
 
 same-length-4 : tie.Need-same-length-4
 same-length-4 c = search needs

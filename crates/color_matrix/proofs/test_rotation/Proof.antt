@@ -24,11 +24,15 @@ unit-pair-requires c κs = search needs
 
 returns-3 : tie.Need-returns-3
 unfolding rotationAnswer
-returns-3 c = search (tests, allowed (c .before .before .before .before .before .is-finite .ensures) (c .before .before .before .before .if1 .left), allowed (c .before .before .before .is-finite2 .ensures) (c .before .before .if2 .left), denied (c .before .unit-pair .ensures) (c .if3 .taken))
+returns-3 c =
+    let is-finite = c .before .before .before .before .before .is-finite in
+    search (tests, allowed (is-finite .ensures) (c .before .before .before .before .if1 .left), allowed (c .before .before .before .is-finite2 .ensures) (c .before .before .if2 .left), denied (c .before .unit-pair .ensures) (c .if3 .taken))
 
 returns-4 : tie.Need-returns-4
 unfolding rotationAnswer
-returns-4 c = search (tests, allowed (c .before .before .before .before .before .is-finite .ensures) (c .before .before .before .before .if1 .left), allowed (c .before .before .before .is-finite2 .ensures) (c .before .before .if2 .left), allowed (c .before .unit-pair .ensures) (c .if3 .left))
+returns-4 c =
+    let is-finite = c .before .before .before .before .before .is-finite in
+    search (tests, allowed (is-finite .ensures) (c .before .before .before .before .if1 .left), allowed (c .before .before .before .is-finite2 .ensures) (c .before .before .if2 .left), allowed (c .before .unit-pair .ensures) (c .if3 .left))
 
 pub test-rotation-spec : {M : Type 1} → statement M
 test-rotation-spec =

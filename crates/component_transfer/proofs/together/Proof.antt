@@ -25,10 +25,16 @@ answer-number-requires-2 : tie.Need-answer-number-requires-2
 answer-number-requires-2 c κs = search needs
 
 returns : tie.Need-returns
-returns c = together-lower _ _ (refusing (c .before .before .before .before .before .before .before .args .p) (c .before .before .before .before .before .before .match .keys2)) (refusing (c .before .before .before .before .before .before .before .args .q) (c .before .before .before .before .match2 .keys2)) (c .before .before .answer-number .ensures) (c .before .answer-number2 .ensures) (c .if1 .taken)
+returns c =
+    let match = c .before .before .before .before .before .before .match in
+    let args = c .before .before .before .before .before .before .before .args in
+    together-lower _ _ (refusing (args .p) (match .keys2)) (refusing (args .q) (c .before .before .before .before .match2 .keys2)) (c .before .before .answer-number .ensures) (c .before .answer-number2 .ensures) (c .if1 .taken)
 
 returns-2 : tie.Need-returns-2
-returns-2 c = together-higher _ _ (refusing (c .before .before .before .before .before .before .before .args .p) (c .before .before .before .before .before .before .match .keys2)) (refusing (c .before .before .before .before .before .before .before .args .q) (c .before .before .before .before .match2 .keys2)) (c .before .before .answer-number .ensures) (c .before .answer-number2 .ensures) (c .if1 .left)
+returns-2 c =
+    let match = c .before .before .before .before .before .before .match in
+    let args = c .before .before .before .before .before .before .before .args in
+    together-higher _ _ (refusing (args .p) (match .keys2)) (refusing (args .q) (c .before .before .before .before .match2 .keys2)) (c .before .before .answer-number .ensures) (c .before .answer-number2 .ensures) (c .if1 .left)
 
 returns-3 : tie.Need-returns-3
 returns-3 c = together-first _ _ (refusing (c .before .before .before .before .args .p) (c .before .before .before .match .keys2)) (c .enum-told3 .given .1)

@@ -24,18 +24,28 @@ within-requires c κs = search needs
 
 returns-3 : tie.Need-returns-3
 unfolding radiiAnswer
-returns-3 c = search (tests, allowed (c .before .before .before .before .before .is-finite .ensures) (c .before .before .before .before .if1 .left), allowed (c .before .before .before .is-finite2 .ensures) (c .before .before .if2 .left), denied (c .before .within .ensures) (c .if3 .taken))
+returns-3 c =
+    let the-is-finite = c .before .before .before .before .before .is-finite in
+    search (tests, allowed (the-is-finite .ensures) (c .before .before .before .before .if1 .left), allowed (c .before .before .before .is-finite2 .ensures) (c .before .before .if2 .left), denied (c .before .within .ensures) (c .if3 .taken))
 
 within-requires-2 : tie.Need-within-requires-2
 within-requires-2 c κs = search needs
 
 returns-4 : tie.Need-returns-4
 unfolding radiiAnswer
-returns-4 c = search (tests, allowed (c .before .before .before .before .before .before .before .is-finite .ensures) (c .before .before .before .before .before .before .if1 .left), allowed (c .before .before .before .before .before .is-finite2 .ensures) (c .before .before .before .before .if2 .left), allowed (c .before .before .before .within .ensures) (c .before .before .if3 .left), denied (c .before .within2 .ensures) (c .if4 .taken))
+returns-4 c =
+    let the-is-finite = c .before .before .before .before .before .before .before .is-finite in
+    let the-if1 = c .before .before .before .before .before .before .if1 in
+    let the-is-finite2 = c .before .before .before .before .before .is-finite2 in
+    search (tests, allowed (the-is-finite .ensures) (the-if1 .left), allowed (the-is-finite2 .ensures) (c .before .before .before .before .if2 .left), allowed (c .before .before .before .within .ensures) (c .before .before .if3 .left), denied (c .before .within2 .ensures) (c .if4 .taken))
 
 returns-5 : tie.Need-returns-5
 unfolding radiiAnswer
-returns-5 c = search (tests, allowed (c .before .before .before .before .before .before .before .is-finite .ensures) (c .before .before .before .before .before .before .if1 .left), allowed (c .before .before .before .before .before .is-finite2 .ensures) (c .before .before .before .before .if2 .left), allowed (c .before .before .before .within .ensures) (c .before .before .if3 .left), allowed (c .before .within2 .ensures) (c .if4 .left))
+returns-5 c =
+    let the-is-finite = c .before .before .before .before .before .before .before .is-finite in
+    let the-if1 = c .before .before .before .before .before .before .if1 in
+    let the-is-finite2 = c .before .before .before .before .before .is-finite2 in
+    search (tests, allowed (the-is-finite .ensures) (the-if1 .left), allowed (the-is-finite2 .ensures) (c .before .before .before .before .if2 .left), allowed (c .before .before .before .within .ensures) (c .before .before .if3 .left), allowed (c .before .within2 .ensures) (c .if4 .left))
 
 pub test-spec : {M : Type 1} → statement M
 test-spec =

@@ -22,11 +22,19 @@ colour-applied-requires-3 c κs = search needs
 alpha-requires : tie.Need-alpha-requires
 alpha-requires c κs = search needs
 
-pixel-of-requires : tie.Need-pixel-of-requires
-pixel-of-requires c κs = search needs
+of-requires : tie.Need-of-requires
+of-requires c κs = search needs
 
 returns : tie.Need-returns
-returns c = channels-as (c .pixel-of .ensures) (c .before .before .before .before .colour-applied .ensures ∙ ap (λ x. fromNormalized (colourSum (c .before .before .before .before .before .before .args .r) x)) (c .before .before .before .before .before .to-normalized-components .ensures)) (c .before .before .before .colour-applied2 .ensures ∙ ap (λ x. fromNormalized (colourSum (c .before .before .before .before .before .before .args .g) x)) (c .before .before .before .before .before .to-normalized-components .ensures)) (c .before .before .colour-applied3 .ensures ∙ ap (λ x. fromNormalized (colourSum (c .before .before .before .before .before .before .args .b) x)) (c .before .before .before .before .before .to-normalized-components .ensures)) (c .before .alpha .ensures)
+returns c =
+    let the-to-normalized-components = c .before .before .before .before .before .to-normalized-components in
+    let a = c .before .before .before .before .before .before .args in
+    let parts = the-to-normalized-components .ensures in
+    channels-as (c .of .ensures)
+    (c .before .before .before .before .colour-applied .ensures ∙ ap (λ x. fromNormalized (colourSum (a .r) x)) parts)
+    (c .before .before .before .colour-applied2 .ensures ∙ ap (λ x. fromNormalized (colourSum (a .g) x)) parts)
+    (c .before .before .colour-applied3 .ensures ∙ ap (λ x. fromNormalized (colourSum (a .b) x)) parts)
+    (c .before .alpha .ensures)
 
 pub colour-pixel-spec : {M : Type 1} → statement M
 colour-pixel-spec =
@@ -37,5 +45,5 @@ colour-pixel-spec =
     colour-applied-requires-2
     colour-applied-requires-3
     alpha-requires
-    pixel-of-requires
+    of-requires
     returns)

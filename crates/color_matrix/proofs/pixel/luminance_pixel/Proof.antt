@@ -13,13 +13,13 @@ to-normalized-components-requires c κs = search needs
 colour-applied-requires : tie.Need-colour-applied-requires
 colour-applied-requires c κs = search needs
 
-pixel-of-requires : tie.Need-pixel-of-requires
-pixel-of-requires c κs = search needs
+of-requires : tie.Need-of-requires
+of-requires c κs = search needs
 
 returns : tie.Need-returns
-returns c = channels-as (c .pixel-of .ensures) refl refl refl (c .before .colour-applied .ensures ∙ ap (λ x. fromNormalized (colourSum (luminance) x)) (c .before .before .to-normalized-components .ensures))
+returns c = channels-as (c .of .ensures) refl refl refl (c .before .colour-applied .ensures ∙ ap (λ x. fromNormalized (colourSum luminance x)) (c .before .before .to-normalized-components .ensures))
 
 pub luminance-pixel-spec : {M : Type 1} → statement M
 luminance-pixel-spec =
     tie.close
-    (tie.spec to-normalized-components-requires colour-applied-requires pixel-of-requires returns)
+    (tie.spec to-normalized-components-requires colour-applied-requires of-requires returns)

@@ -1,4 +1,4 @@
--- The four channels are the four rows' sums.
+-- Each channel is its row's sum.
 use borrow.Author.Needs.{needs}
 use mathlib.Core.Path.{ap, _∙_}
 use Rattle.floats.specs.Channel.{fromNormalized}
@@ -22,11 +22,19 @@ applied-requires-3 c κs = search needs
 applied-requires-4 : tie.Need-applied-requires-4
 applied-requires-4 c κs = search needs
 
-pixel-of-requires : tie.Need-pixel-of-requires
-pixel-of-requires c κs = search needs
+of-requires : tie.Need-of-requires
+of-requires c κs = search needs
 
 returns : tie.Need-returns
-returns c = channels-as (c .pixel-of .ensures) (c .before .before .before .before .applied .ensures ∙ ap (λ x. fromNormalized (sum (c .before .before .before .before .before .before .args .r) x)) (c .before .before .before .before .before .to-normalized-components .ensures)) (c .before .before .before .applied2 .ensures ∙ ap (λ x. fromNormalized (sum (c .before .before .before .before .before .before .args .g) x)) (c .before .before .before .before .before .to-normalized-components .ensures)) (c .before .before .applied3 .ensures ∙ ap (λ x. fromNormalized (sum (c .before .before .before .before .before .before .args .b) x)) (c .before .before .before .before .before .to-normalized-components .ensures)) (c .before .applied4 .ensures ∙ ap (λ x. fromNormalized (sum (c .before .before .before .before .before .before .args .a) x)) (c .before .before .before .before .before .to-normalized-components .ensures))
+returns c =
+    let the-to-normalized-components = c .before .before .before .before .before .to-normalized-components in
+    let a = c .before .before .before .before .before .before .args in
+    let parts = the-to-normalized-components .ensures in
+    channels-as (c .of .ensures)
+    (c .before .before .before .before .applied .ensures ∙ ap (λ x. fromNormalized (sum (a .r) x)) parts)
+    (c .before .before .before .applied2 .ensures ∙ ap (λ x. fromNormalized (sum (a .g) x)) parts)
+    (c .before .before .applied3 .ensures ∙ ap (λ x. fromNormalized (sum (a .b) x)) parts)
+    (c .before .applied4 .ensures ∙ ap (λ x. fromNormalized (sum (a .a) x)) parts)
 
 pub matrix-pixel-spec : {M : Type 1} → statement M
 matrix-pixel-spec =
@@ -37,5 +45,5 @@ matrix-pixel-spec =
     applied-requires-2
     applied-requires-3
     applied-requires-4
-    pixel-of-requires
+    of-requires
     returns)

@@ -1,7 +1,5 @@
--- Each channel of the pixel's number, from 0 to 1.
+-- Each channel is normalized.
 use borrow.Author.Needs.{needs}
-use mathlib.Core.Path.{ap, _∙_}
-use Rattle.floats.specs.Channel.{normalized}
 use Rattle.color_matrix.proofs.pixel.to_normalized_components.Statement.{statement}
 use Rattle.color_matrix.proofs.pixel.to_normalized_components.Tie as tie
 
@@ -30,7 +28,11 @@ normalized-requires-4 : tie.Need-normalized-requires-4
 normalized-requires-4 c κs = search needs
 
 returns : tie.Need-returns
-returns c = rw (c .before .before .before .before .before .before .normalized .ensures ∙ ap normalized (c .before .before .before .before .before .before .before .red .ensures), c .before .before .before .before .normalized2 .ensures ∙ ap normalized (c .before .before .before .before .before .green .ensures), c .before .before .normalized3 .ensures ∙ ap normalized (c .before .before .before .blue .ensures), c .normalized4 .ensures ∙ ap normalized (c .before .alpha .ensures))
+returns c =
+    let green = c .before .before .before .before .before .green in
+    let normalized = c .before .before .before .before .before .before .normalized in
+    let red = c .before .before .before .before .before .before .before .red in
+    cc (normalized .ensures, c .before .before .before .before .normalized2 .ensures, c .before .before .normalized3 .ensures, c .normalized4 .ensures, red .ensures, green .ensures, c .before .before .before .blue .ensures, c .before .alpha .ensures)
 
 pub to-normalized-components-spec : {M : Type 1} → statement M
 to-normalized-components-spec =

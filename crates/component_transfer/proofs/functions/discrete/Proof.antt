@@ -1,9 +1,11 @@
--- The entry at the index.
+-- The entry at the index, which is the Module's.
 use borrow.Author.Needs.{needs}
-use mathlib.Core.Path.{ap}
-use Rattle.component_transfer.specs.Functions.{entry, discrete}
+use Rattle.component_transfer.proofs.Cases.{discrete-entry}
 use Rattle.component_transfer.proofs.functions.discrete.Statement.{statement}
 use Rattle.component_transfer.proofs.functions.discrete.Tie as tie
+
+normalized-requires : tie.Need-normalized-requires
+normalized-requires c κs = search needs
 
 sub-index : tie.Need-sub-index
 sub-index c = search needs
@@ -18,9 +20,8 @@ shared-slice-read-result : tie.Need-shared-slice-read-result
 shared-slice-read-result c = search needs
 
 returns : tie.Need-returns
-unfolding discrete
-returns c = ap (entry (c .before .before .before .args .values .now)) (c .before .index .ensures)
+returns c = let start = c .before .before .before .before in discrete-entry (start .args .values .now) (start .args .c) (c .before .before .normalized .ensures) (search needs) (start .pre .1) (c .before .index .ensures)
 
 pub discrete-spec : {M : Type 1} → statement M
 discrete-spec =
-    tie.close (tie.spec sub-index index-requires mul-result shared-slice-read-result returns)
+    tie.close (tie.spec normalized-requires sub-index index-requires mul-result shared-slice-read-result returns)

@@ -3,30 +3,39 @@ use borrow.Author.Needs.{needs}
 use mathlib.Core.Path.{sym, ap, _∙_}
 use Rattle.component_transfer.specs.Functions.{table, discrete}
 use Rattle.component_transfer.specs.ComponentTransfer.{functionAnswer, isDummy}
-use Rattle.component_transfer.proofs.Passed.{entries-in, entries-count}
+use Rattle.component_transfer.proofs.Passed.{entries-count}
 use Rattle.component_transfer.proofs.functions.number_of.Statement.{statement}
 use Rattle.component_transfer.proofs.functions.number_of.Tie as tie
 
 enum-told : tie.Need-enum-told
 enum-told c = search needs
 
+normalized-requires : tie.Need-normalized-requires
+normalized-requires c κs = search needs
+
 enum-known-f : tie.Need-enum-known-f
 enum-known-f c = search needs
 
 part-requires : tie.Need-part-requires
-part-requires c κs = entries-in _ _ (ap (λ x. functionAnswer x (c .before .before .before .before .args .pool .now)) (sym (c .before .f .given .1)) ∙ c .before .before .before .before .pre .0)
+part-requires c κs = search needs
 
 table-requires : tie.Need-table-requires
-table-requires c κs = rw (c .part .ensures) (entries-count _ _ (ap (λ x. functionAnswer x (c .before .before .before .before .before .args .pool .now)) (sym (c .before .before .f .given .1)) ∙ c .before .before .before .before .before .pre .0) (ap isDummy (sym (c .before .before .f .given .1)) ∙ c .before .before .before .before .before .pre .1))
+table-requires c κs =
+    let start = c .before .before .before .before .before in
+    let case = sym (c .before .before .f .given .1) in
+    rw (c .part .ensures) (entries-count _ _ (ap (λ x. functionAnswer x (start .args .pool .now)) case ∙ start .pre .0) (ap isDummy case ∙ start .pre .1))
 
 enum-known-f-2 : tie.Need-enum-known-f-2
 enum-known-f-2 c = search needs
 
 part-requires-2 : tie.Need-part-requires-2
-part-requires-2 c κs = entries-in _ _ (ap (λ x. functionAnswer x (c .before .before .before .before .args .pool .now)) (sym (c .before .f2 .given .1)) ∙ c .before .before .before .before .pre .0)
+part-requires-2 c κs = search needs
 
 discrete-requires : tie.Need-discrete-requires
-discrete-requires c κs = rw (c .part2 .ensures) (entries-count _ _ (ap (λ x. functionAnswer x (c .before .before .before .before .before .args .pool .now)) (sym (c .before .before .f2 .given .1)) ∙ c .before .before .before .before .before .pre .0) (ap isDummy (sym (c .before .before .f2 .given .1)) ∙ c .before .before .before .before .before .pre .1))
+discrete-requires c κs =
+    let start = c .before .before .before .before .before in
+    let case = sym (c .before .before .f2 .given .1) in
+    rw (c .part2 .ensures) (entries-count _ _ (ap (λ x. functionAnswer x (start .args .pool .now)) case ∙ start .pre .0) (ap isDummy case ∙ start .pre .1))
 
 enum-known-f-3 : tie.Need-enum-known-f-3
 enum-known-f-3 c = search needs
@@ -35,13 +44,17 @@ linear-requires : tie.Need-linear-requires
 linear-requires c κs = search needs
 
 returns : tie.Need-returns
-returns c = search needs
+returns c = rw (c .before .enum-told .given .1) (c .normalized .ensures)
 
 returns-2 : tie.Need-returns-2
-returns-2 c = rw (c .before .before .before .f .given .1) (c .table .ensures ∙ ap (λ l. table l (c .before .before .before .before .before .before .args .c)) (c .before .part .ensures))
+returns-2 c =
+    let args = c .before .before .before .before .before .before .args in
+    let byte = args .c in rw (c .before .before .before .f .given .1) (c .table .ensures ∙ ap (λ l. table l byte) (c .before .part .ensures))
 
 returns-3 : tie.Need-returns-3
-returns-3 c = rw (c .before .before .before .f2 .given .1) (c .discrete .ensures ∙ ap (λ l. discrete l (c .before .before .before .before .before .before .args .c)) (c .before .part2 .ensures))
+returns-3 c =
+    let args = c .before .before .before .before .before .before .args in
+    let byte = args .c in rw (c .before .before .before .f2 .given .1) (c .discrete .ensures ∙ ap (λ l. discrete l byte) (c .before .part2 .ensures))
 
 returns-4 : tie.Need-returns-4
 returns-4 c = rw (c .before .before .f3 .given .1) (c .linear .ensures)
@@ -51,6 +64,7 @@ number-of-spec =
     tie.close
     (tie.spec
     enum-told
+    normalized-requires
     enum-known-f
     part-requires
     table-requires

@@ -5,6 +5,9 @@ use Rattle.component_transfer.proofs.Cases.{exact-float, table-last, ta
 use Rattle.component_transfer.proofs.functions.table.Statement.{statement}
 use Rattle.component_transfer.proofs.functions.table.Tie as tie
 
+normalized-requires : tie.Need-normalized-requires
+normalized-requires c κs = search needs
+
 sub-n : tie.Need-sub-n
 sub-n c = search needs
 
@@ -39,15 +42,20 @@ int-to-float-last : tie.Need-int-to-float-last
 int-to-float-last c = exact-float _ (search needs)
 
 returns : tie.Need-returns
-returns c = table-last _ _ _ _ refl (c .before .before .index .ensures) (c .before .if1 .taken)
+returns c = let start = c .before .before .before .before .before in table-last (start .args .values .now) (start .args .c) (c .before .before .before .normalized .ensures) (search needs) (start .pre .1) _ refl (c .before .before .index .ensures) (c .before .if1 .taken)
 
 returns-2 : tie.Need-returns-2
-returns-2 c = table-between _ _ _ _ refl (c .before .before .before .before .before .index .ensures) (c .before .before .before .before .if1 .left)
+returns-2 c =
+    let index = c .before .before .before .before .before .index in
+    let normalized = c .before .before .before .before .before .before .normalized in
+    let start = c .before .before .before .before .before .before .before .before in
+    table-between (start .args .values .now) (start .args .c) (normalized .ensures) (search needs) (start .pre .1) _ refl (index .ensures) (c .before .before .before .before .if1 .left)
 
 pub table-spec : {M : Type 1} → statement M
 table-spec =
     tie.close
     (tie.spec
+    normalized-requires
     sub-n
     index-requires
     mul-result

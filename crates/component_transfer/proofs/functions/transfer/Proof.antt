@@ -11,17 +11,14 @@ is-dummy-requires c κs = search needs
 returns : tie.Need-returns
 returns c = left-alone _ _ _ (sym (c .before .is-dummy .ensures) ∙ c .if1 .taken)
 
-normalized-requires : tie.Need-normalized-requires
-normalized-requires c κs = search needs
-
 number-of-requires : tie.Need-number-of-requires
-number-of-requires c κs = (c .before .before .before .before .pre, sym (c .before .before .is-dummy .ensures) ∙ c .before .if1 .left)
+number-of-requires c κs = (c .before .before .before .pre, sym (c .before .is-dummy .ensures) ∙ c .if1 .left)
 
 from-normalized-requires : tie.Need-from-normalized-requires
 from-normalized-requires c κs = search needs
 
 returns-2 : tie.Need-returns-2
-returns-2 c = by-number _ _ _ (sym (c .before .before .before .before .is-dummy .ensures) ∙ c .before .before .before .if1 .left) (c .before .before .normalized .ensures) (c .before .number-of .ensures) (c .from-normalized .ensures)
+returns-2 c = by-number _ _ _ (sym (c .before .before .before .is-dummy .ensures) ∙ c .before .before .if1 .left) (c .before .number-of .ensures) (c .from-normalized .ensures)
 
 pub transfer-spec : {M : Type 1} → statement M
 transfer-spec =
@@ -29,7 +26,6 @@ transfer-spec =
     (tie.spec
     is-dummy-requires
     returns
-    normalized-requires
     number-of-requires
     from-normalized-requires
     returns-2)

@@ -15,7 +15,10 @@ bound-requires c κs = search needs
 
 returns : tie.Need-returns
 unfolding calc
-returns c = rw (← c .before .before .before .before .before .before .normalized .ensures, ← c .before .before .before .before .before .normalized2 .ensures) (c .bound .ensures)
+returns c =
+    let the-normalized = c .before .before .before .before .before .before .normalized in
+    let the-normalized2 = c .before .before .before .before .before .normalized2 in
+    rw (← the-normalized .ensures, ← the-normalized2 .ensures) (c .bound .ensures)
 
 pub calc-spec : {M : Type 1} → statement M
 calc-spec = tie.close (tie.spec normalized-requires normalized-requires-2 bound-requires returns)

@@ -1,9 +1,6 @@
 -- The new alpha decides whether the pixel is clear.
 use borrow.Author.Needs.{needs}
-use mathlib.Core.Path.{_≡_, ap, _∙_}
 use Rattle.floats.specs.Order.{nearZero}
-use Rattle.sheet.specs.Pixel.{channel}
-use Rattle.composite.specs.Arithmetic.{alphaOf}
 use Rattle.composite.proofs.Bytes.{cleared-channels}
 use Rattle.composite.proofs.pixel.composed.Statement.{statement}
 use Rattle.composite.proofs.pixel.composed.Tie as tie
@@ -24,7 +21,9 @@ unless-clear-requires : tie.Need-unless-clear-requires
 unless-clear-requires c κs = search needs
 
 returns : tie.Need-returns
-returns c = let a : c .before .before .calc .result ≡ alphaOf (c .before .before .before .before .before .args .k) (channel 3 (c .before .before .before .before .before .args .c1 .0)) (channel 3 (c .before .before .before .before .before .args .c2 .0)) = c .before .before .calc .ensures ∙ (ap (λ x. alphaOf (c .before .before .before .before .before .args .k) x (c .before .before .before .alpha2 .result)) (c .before .before .before .before .alpha .ensures) ∙ ap (λ x. alphaOf (c .before .before .before .before .before .args .k) (channel 3 (c .before .before .before .before .before .args .c1 .0)) x) (c .before .before .before .alpha2 .ensures)) in rw (← a) (cleared-channels (nearZero (c .before .before .calc .result)) (c .before .with-alpha .ensures) (c .unless-clear .ensures))
+returns c =
+    let a = rw (c .before .before .before .before .alpha .ensures, c .before .before .before .alpha2 .ensures) at (c .before .before .calc .ensures) in
+    rw (← a) (cleared-channels (nearZero (c .before .before .calc .result)) (c .before .with-alpha .ensures) (c .unless-clear .ensures))
 
 pub composed-spec : {M : Type 1} → statement M
 composed-spec =

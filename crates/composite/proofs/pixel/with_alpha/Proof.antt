@@ -1,9 +1,7 @@
 -- Each channel is made of the two channels and the new alpha.
 use borrow.Author.Needs.{needs}
-use mathlib.Core.Path.{ap, _∙_}
-use Rattle.sheet.specs.Pixel.{channel}
 use Rattle.sheet.proofs.Filling.{channels-as}
-use Rattle.composite.specs.Arithmetic.{colour, scaled}
+use Rattle.composite.specs.Arithmetic.{scaled}
 use Rattle.composite.proofs.pixel.with_alpha.Statement.{statement}
 use Rattle.composite.proofs.pixel.with_alpha.Tie as tie
 
@@ -37,12 +35,23 @@ colour-requires-3 c κs = search needs
 scaled-to-byte-requires : tie.Need-scaled-to-byte-requires
 scaled-to-byte-requires c κs = search needs
 
-pixel-of-requires : tie.Need-pixel-of-requires
-pixel-of-requires c κs = search needs
+of-requires : tie.Need-of-requires
+of-requires c κs = search needs
 
 returns : tie.Need-returns
 unfolding scaled
-returns c = channels-as (c .pixel-of .ensures) (c .before .before .before .before .before .before .before .before .colour .ensures ∙ (ap (λ x. colour (c .before .before .before .before .before .before .before .before .before .before .before .args .k) x (c .before .before .before .before .before .before .before .before .before .red2 .result) (c .before .before .before .before .before .before .before .before .before .before .before .args .a)) (c .before .before .before .before .before .before .before .before .before .before .red .ensures) ∙ ap (λ x. colour (c .before .before .before .before .before .before .before .before .before .before .before .args .k) (channel 0 (c .before .before .before .before .before .before .before .before .before .before .before .args .c1)) x (c .before .before .before .before .before .before .before .before .before .before .before .args .a)) (c .before .before .before .before .before .before .before .before .before .red2 .ensures))) (c .before .before .before .before .before .colour2 .ensures ∙ (ap (λ x. colour (c .before .before .before .before .before .before .before .before .before .before .before .args .k) x (c .before .before .before .before .before .before .green2 .result) (c .before .before .before .before .before .before .before .before .before .before .before .args .a)) (c .before .before .before .before .before .before .before .green .ensures) ∙ ap (λ x. colour (c .before .before .before .before .before .before .before .before .before .before .before .args .k) (channel 1 (c .before .before .before .before .before .before .before .before .before .before .before .args .c1)) x (c .before .before .before .before .before .before .before .before .before .before .before .args .a)) (c .before .before .before .before .before .before .green2 .ensures))) (c .before .before .colour3 .ensures ∙ (ap (λ x. colour (c .before .before .before .before .before .before .before .before .before .before .before .args .k) x (c .before .before .before .blue2 .result) (c .before .before .before .before .before .before .before .before .before .before .before .args .a)) (c .before .before .before .before .blue .ensures) ∙ ap (λ x. colour (c .before .before .before .before .before .before .before .before .before .before .before .args .k) (channel 2 (c .before .before .before .before .before .before .before .before .before .before .before .args .c1)) x (c .before .before .before .before .before .before .before .before .before .before .before .args .a)) (c .before .before .before .blue2 .ensures))) (c .before .scaled-to-byte .ensures)
+returns c =
+    let the-red = c .before .before .before .before .before .before .before .before .before .before .red in
+    let the-red2 = c .before .before .before .before .before .before .before .before .before .red2 in
+    let the-colour = c .before .before .before .before .before .before .before .before .colour in
+    let the-green = c .before .before .before .before .before .before .before .green in
+    let the-green2 = c .before .before .before .before .before .before .green2 in
+    let the-colour2 = c .before .before .before .before .before .colour2 in
+    channels-as (c .of .ensures)
+    (rw (the-red .ensures, the-red2 .ensures) at (the-colour .ensures))
+    (rw (the-green .ensures, the-green2 .ensures) at (the-colour2 .ensures))
+    (rw (c .before .before .before .before .blue .ensures, c .before .before .before .blue2 .ensures) at (c .before .before .colour3 .ensures))
+    (c .before .scaled-to-byte .ensures)
 
 pub with-alpha-spec : {M : Type 1} → statement M
 with-alpha-spec =
@@ -58,5 +67,5 @@ with-alpha-spec =
     blue-requires-2
     colour-requires-3
     scaled-to-byte-requires
-    pixel-of-requires
+    of-requires
     returns)

@@ -3,7 +3,7 @@ use borrow.Author.Needs.{needs}
 use Prim.Native.Nat.{_-_, _≤_}
 use mathlib.Core.Path.{_≡_}
 use native.Mathlib.Omega.{arith}
-use Rattle.morphology.specs.Lines.{Merged}
+use Rattle.morphology.specs.inner.Lines.{Merged}
 use Rattle.morphology.proofs.Merging.{merged-none, merged-more}
 use Rattle.morphology.proofs.spread.merge.Statement.{statement}
 use Rattle.morphology.proofs.spread.merge.Tie as tie
@@ -51,7 +51,10 @@ same-length : tie.Need-same-length Inv-loop μ-loop
 same-length c = search needs
 
 returns : tie.Need-returns Inv-loop μ-loop
-returns c = let m = c .before .loop .inv .1 in let z : c .before .loop .i ≡ c .before .before .before .before .args .n = omega arith in rw z at m
+returns c =
+    let m = c .before .loop .inv .1 in
+    let z : c .before .loop .i ≡ c .before .before .before .before .args .n = omega arith in
+    rw z at m
 
 pub merge-spec : {M : Type 1} → statement M
 merge-spec =

@@ -3,7 +3,7 @@ use borrow.Author.Needs.{needs}
 use Prim.Native.Nat.{_-_, _*_}
 use mathlib.Core.Path.{_≡_}
 use native.Mathlib.Omega.{arith}
-use Rattle.morphology.specs.Lines.{Rows}
+use Rattle.morphology.specs.inner.Lines.{Rows}
 use Rattle.morphology.proofs.Spreading.{shift-inside}
 use Rattle.morphology.proofs.Passes.{rows-none, row-lines, rows-more}
 use Rattle.morphology.proofs.spread.spread_rows.Statement.{statement}
@@ -25,7 +25,9 @@ mul-spread : tie.Need-mul-spread Inv-loop μ-loop
 mul-spread c = let l = shift-inside (4 * c .before .before .before .before .args .width) (c .before .loop .y) (c .before .before .before .before .args .height) (search needs) in search needs
 
 spread-requires : tie.Need-spread-requires Inv-loop μ-loop
-spread-requires c κs = row-lines _ _ _ _ _ _ _ (c .before .before .before .before .before .pre .1 .0) (c .before .before .loop .inv) (c .before .loop-test .taken) (c .before .before .before .before .before .pre .0 .1)
+spread-requires c κs =
+    let pre = c .before .before .before .before .before .pre in
+    row-lines _ _ _ _ _ _ _ (pre .1 .0) (c .before .before .loop .inv) (c .before .loop-test .taken) (pre .0 .1)
 
 add-y : tie.Need-add-y Inv-loop μ-loop
 add-y c = search needs
@@ -34,13 +36,19 @@ loop-less : tie.Need-loop-less Inv-loop μ-loop
 loop-less c = search needs
 
 loop-again : tie.Need-loop-again Inv-loop μ-loop
-loop-again c = rows-more _ _ _ _ _ _ _ (c .before .before .before .before .before .before .before .before .pre .1 .0) (c .before .before .before .before .before .loop .inv) (c .before .before .before .before .loop-test .taken) _ (c .before .before .spread .ensures)
+loop-again c =
+    let pre = c .before .before .before .before .before .before .before .before .pre in
+    let loop = c .before .before .before .before .before .loop in
+    rows-more _ _ _ _ _ _ _ (pre .1 .0) (loop .inv) (c .before .before .before .before .loop-test .taken) _ (c .before .before .spread .ensures)
 
 same-length : tie.Need-same-length Inv-loop μ-loop
 same-length c = search needs
 
 returns : tie.Need-returns Inv-loop μ-loop
-returns c = let m = c .before .loop .inv in let z : c .before .loop .y ≡ c .before .before .before .before .args .height = omega arith in rw z at m
+returns c =
+    let m = c .before .loop .inv in
+    let z : c .before .loop .y ≡ c .before .before .before .before .args .height = omega arith in
+    rw z at m
 
 pub spread-rows-spec : {M : Type 1} → statement M
 spread-rows-spec =

@@ -1,4 +1,4 @@
--- Words of the engine's contracts: lines of places that lie a step apart. Definitions only.
+-- Words of the engine's contracts: lines of places that lie a step apart.
 use Prim.Native.Nat.{ℕ, _+_, _*_, _≤_, _<_}
 use mathlib.Core.Path.{_≡_}
 use mathlib.Core.List.{List}
@@ -37,4 +37,4 @@ pub record Rows (op : MorphologyOperator) (radius w h y : ℕ) (src scratch : Li
   pub within : y ≤ h
   pub same : length scratch ≡ length src
   pub spread : (x y′ c : ℕ) → x < w → y′ < y → c < 4 → getD scratch (byteAt w x y′ c) 0 ≡ window op radius w (λ u. getD src (byteAt w u y′ c) 0) x
-  pub left : (k : ℕ) → 4 * w * y ≤ k → getD scratch k 0 ≡ getD src k 0
+  pub rest : (k : ℕ) → 4 * w * y ≤ k → getD scratch k 0 ≡ getD src k 0

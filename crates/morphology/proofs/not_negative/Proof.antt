@@ -9,20 +9,20 @@ use lib.Signed.{ltZ, nonNeg, mag}
 use lib.Dec.{T, lit≤}
 use mir.Syntax.{w64}
 use mir.Val.{Fits}
-use Rattle.morphology.specs.Morphology.{wholeOf}
+use Rattle.morphology.specs.Morphology.{notNegative}
 use Rattle.morphology.proofs.Signed.{back}
-use Rattle.morphology.proofs.whole.Statement.{statement}
-use Rattle.morphology.proofs.whole.Tie as tie
+use Rattle.morphology.proofs.not_negative.Statement.{statement}
+use Rattle.morphology.proofs.not_negative.Tie as tie
 
-below : (z z′ : ℤ) → z′ ≡ z → ltZ z′ (pos 0) ≡ true → 0 ≡ wholeOf z
+below : (z z′ : ℤ) → z′ ≡ z → ltZ z′ (pos 0) ≡ true → 0 ≡ notNegative z
 below (pos n) z′ b e = let t : ltZ (pos n) (pos 0) ≡ true = rw b at e in absurd (not-suc-le-zero (ltb-true n 0 t))
 below (negsuc n) z′ b e = refl
 
 module _ (z z′ : ℤ) (b : z′ ≡ z) (e : ltZ z′ (pos 0) ≡ false) where
-  size : natAbs z′ ≡ wholeOf z
+  size : natAbs z′ ≡ notNegative z
   size = rw b (go z (rw b at e))
     where
-      go : (z : ℤ) → ltZ z (pos 0) ≡ false → natAbs z ≡ wholeOf z
+      go : (z : ℤ) → ltZ z (pos 0) ≡ false → natAbs z ≡ notNegative z
       go (pos n) e = refl
       go (negsuc n) e = absurd (true≢false e)
 
@@ -42,5 +42,5 @@ returns c = below (c .before .args .n) _ (back (c .before .args .n) (c .before .
 returns-2 : tie.Need-returns-2
 returns-2 c = size (c .before .args .n) _ (back (c .before .args .n) (c .before .good .0)) (c .if1 .left)
 
-pub whole-spec : {M : Type 1} → statement M
-whole-spec = tie.close (tie.spec cast-result returns returns-2)
+pub not-negative-spec : {M : Type 1} → statement M
+not-negative-spec = tie.close (tie.spec cast-result returns returns-2)
