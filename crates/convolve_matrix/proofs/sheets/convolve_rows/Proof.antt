@@ -1,0 +1,78 @@
+-- Each turn stores one more row of the result.
+use borrow.Author.Needs.{needs}
+use Prim.Native.Nat.{_-_, _*_, _≤_}
+use mathlib.Core.Path.{_≡_, _∙_}
+use native.Mathlib.Omega.{arith}
+use lib.ListN.{length}
+use Rattle.sheet.proofs.Filling.{Filling}
+use Rattle.convolve_matrix.specs.ConvolveMatrix.{convolvedAt, convolvedBy}
+use Rattle.convolve_matrix.proofs.Finishing.{sheet-start, sheet-row, sheet-filled}
+use Rattle.convolve_matrix.proofs.sheets.convolve_rows.Statement.{statement}
+use Rattle.convolve_matrix.proofs.sheets.convolve_rows.Tie as tie
+
+abbrev Inv-loop : tie.InvT-loop
+Inv-loop matrix kernel w h src row₀ sums₀ dest₀ y₀ row sums dest y =
+    (y ≤ h) × ((length row ≡ 8248) × ((length sums ≡ 8192) × Filling (convolvedAt matrix kernel w h src) dest₀ dest (4 * (y * w))))
+
+abbrev μ-loop : tie.MeasureT-loop
+μ-loop matrix kernel w h src row₀ sums₀ dest₀ y₀ row sums dest y = h - y
+
+loop-holds : tie.Need-loop-holds Inv-loop μ-loop
+loop-holds c =
+    let p = c .before .before .before .before .before .pre in
+    (search needs, (p .1 .1 .0, (p .1 .1 .1, sheet-start _ _)))
+
+convolve-row-requires : tie.Need-convolve-row-requires Inv-loop μ-loop
+convolve-row-requires c κs =
+    let p = c .before .before .before .before .before .before .before .before .before .before .pre in
+    let i = c .before .before .before .before .loop .inv in
+    let f = i .1 .1 .1 .same in
+    let d = p .1 .0 .2 in
+    ((p .0, c .before .before .before .loop-test .taken), ((p .1 .0 .0, p .1 .0 .1, f ∙ d), (i .1 .0, i .1 .1 .0)))
+
+add-y : tie.Need-add-y Inv-loop μ-loop
+add-y c = search needs
+
+loop-less : tie.Need-loop-less Inv-loop μ-loop
+loop-less c = search needs
+
+loop-again : tie.Need-loop-again Inv-loop μ-loop
+loop-again c =
+    let p = c .before .before .before .before .before .before .before .before .before .before .before .before .before .before .before .before .before .pre in
+    let i = c .before .before .before .before .before .before .before .before .before .before .before .loop .inv in
+    let r = i .1 .0 in
+    let s = i .1 .1 .0 in
+    (search needs, (search needs, (search needs, sheet-row _ _ (p .1 .0 .2) _ (c .before .before .before .before .before .before .before .before .before .before .loop-test .taken) (i .1 .1 .1) (c .before .before .before .before .before .before .convolve-row .ensures))))
+
+same-length : tie.Need-same-length Inv-loop μ-loop
+same-length c = search needs
+
+same-length-2 : tie.Need-same-length-2 Inv-loop μ-loop
+same-length-2 c = search needs
+
+same-length-3 : tie.Need-same-length-3 Inv-loop μ-loop
+same-length-3 c = search needs
+
+returns : tie.Need-returns Inv-loop μ-loop
+unfolding convolvedBy
+returns c =
+    let p = c .before .before .before .before .before .before .before .pre in
+    let m = c .before .loop .inv .1 .1 .1 in
+    let z : c .before .loop .y ≡ c .before .before .before .before .before .before .before .args .h = omega arith in
+    sheet-filled _ _ (p .1 .0 .2) (rw z at m)
+
+pub convolve-rows-spec : {M : Type 1} → statement M
+convolve-rows-spec =
+    tie.close
+    (tie.spec
+    Inv-loop
+    μ-loop
+    loop-holds
+    convolve-row-requires
+    add-y
+    loop-less
+    loop-again
+    same-length
+    same-length-2
+    same-length-3
+    returns)
