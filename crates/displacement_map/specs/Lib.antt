@@ -1,0 +1,3 @@
+pub mod DisplacementMap
+pub mod Reads
+pub mod inner
