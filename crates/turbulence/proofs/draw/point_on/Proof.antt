@@ -1,0 +1,16 @@
+-- The definition itself.
+use borrow.Author.Needs.{needs}
+use mathlib.Core.Path.{refl}
+use Rattle.turbulence.specs.Turbulence.{pointOn}
+use Rattle.turbulence.proofs.draw.point_on.Statement.{statement}
+use Rattle.turbulence.proofs.draw.point_on.Tie as tie
+
+int-to-float-result : tie.Need-int-to-float-result
+int-to-float-result c = search needs
+
+returns : tie.Need-returns
+unfolding pointOn
+returns c = refl
+
+pub point-on-spec : {M : Type 1} → statement M
+point-on-spec = tie.close (tie.spec int-to-float-result returns)

@@ -1,0 +1,9 @@
+pub mod Random
+pub mod Selector
+pub mod Gradient
+pub mod Tables
+pub mod Constants
+pub mod Noise
+pub mod Turbulence
+pub mod Reads
+pub mod inner
