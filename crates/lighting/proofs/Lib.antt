@@ -1,0 +1,9 @@
+mod Differences
+mod Cases
+mod Leans
+mod Pixels
+pub mod Reading
+pub mod WithinAlpha
+pub mod Rules
+mod Tilts
+pub mod Needed

@@ -1,0 +1,351 @@
+-- Every alpha that a byte of a specular lighting reads is needed, so its reach is the least: of a clear sheet white light from above makes 255,
+-- and an opaque pixel beside the byte's own makes the surface lean, and less light of it. The pixel's own alpha hides a point just above it.
+use Prim.Native.Nat.{ℕ, zero, suc, _+_, _*_, _%_, _≤_, _<_, max}
+use mathlib.Core.Path.{_≡_, refl, sym, ap, _∙_}
+use mathlib.Core.Bool.{Bool, true, false, cond, _&&_}
+use mathlib.Core.List.{List}
+use mathlib.Core.Logic.{_⊎_, inl, inr}
+use native.Mathlib.Omega.{arith}
+use native.Mathlib.Decide.{ℕ-discrete}
+use borrow.Author.Tests.{ne-eqb, le-ltb}
+use lib.ListN.{getD, replicate}
+use lib.Seq.{getD-set-other}
+use lib.Dec.{T, eqb, ltb, ltb→lt}
+use lib.IntN.{pos, negsuc}
+use lib.Ieee.{Float, nan, inf, fin, binary32, ofBits, ofInt, toBits, toUnsigned, add, sub, sum, neg, mul, div, round, units, odd, size, span, climb, lt, le, eq}
+use lib.Ieee.Scale.{finite}
+use lib.Count.{trailingZeros}
+use Rattle.floats.specs.Channel.{normalized}
+use Rattle.floats.specs.Constants.{c0, c1, c65536, m65536}
+use Rattle.floats.specs.Operators.{_⊖_, _⊗_}
+use Rattle.floats.specs.Order.{nearZero}
+use Rattle.floats.specs.Root.{rootAt, root, roundRoot, sqrtOf}
+use Rattle.floats.specs.Unit.{unitTriple}
+use Rattle.floats.proofs.EveryByte.{every, below}
+use Rattle.sheet.specs.declared.Answer.the-variants.{Done}
+use Rattle.sheet.specs.Pixel.{column, row, byteAt}
+use Rattle.sheet.proofs.Places.{place-inside, column-inside, row-inside, column-of-place, row-of-place}
+use Rattle.sheet.proofs.Apart.{Bytes, Apart, Needed, allBut, length-all-but, at-but, not-at-but, all-same, bytes-inside}
+use Rattle.lighting.specs.declared.light.LightSource.{LightSource}
+use Rattle.lighting.specs.declared.light.LightSource.the-variants.{Distant, Point}
+use Rattle.lighting.specs.declared.light.Reflection.the-variants.{Specular}
+use Rattle.lighting.specs.declared.light.Ray.{Ray}
+use Rattle.lighting.specs.declared.light.Ray.the-variants.{Short}
+use Rattle.lighting.specs.declared.pixel.Color.{Color}
+use Rattle.lighting.specs.declared.surface.Normal.{Normal}
+use Rattle.lighting.specs.Vectors as Vectors
+use Rattle.lighting.specs.Vectors.{vector}
+use Rattle.lighting.specs.Surface.{alphaAt, ahead, behind, lean, atEdge, leanFactor, normalAt}
+use Rattle.lighting.specs.Light.{toPoint, lightVector, halfRay, rayOf, flat, along, lightFactor}
+use Rattle.lighting.specs.Lighting.{c256, finiteNumbers, numbersInRange, specularAnswer, litColour, colourOf, litChannel, factorAt, small, lit, specular}
+use Rattle.lighting.specs.Reads.{Reads}
+use Rattle.lighting.proofs.Reading.{byte-lit}
+use Rattle.lighting.proofs.Rules.{normal, factorOf}
+use Rattle.lighting.proofs.Tilts.{weighted-none, tilt, Tilted, tilted}
+
+abbrev white : Color
+white = record { red = 255; green = 255; blue = 255 }
+
+-- a colour of white light along a ray, on a steep surface
+abbrev shade : Ray → Normal → ℕ
+shade ray n = litColour 255 (lightFactor c256 c1 n ray)
+
+abbrev above : Ray
+above = rayOf Specular (vector c0 c0 c1)
+
+-- ---- flat and leaning surfaces
+bright : (a b : Float) → shade above (normal a b (pos 0) (pos 0)) ≡ 255
+unfolding litColour halfRay along flat Vectors.dot Vectors.length sqrtOf roundRoot root rootAt nearZero ofBits toBits ofInt toUnsigned add mul div sum round units odd size span climb trailingZeros lt le eq neg
+bright a b = refl
+
+-- the surface is flat, or less bright
+dark : (e d : Bool) → ℕ → ℕ → Bool
+dark e d i j = cond (eqb (i + j) 0) true (ltb (shade above (normal (factorOf e d) (factorOf d e) (tilt i) (tilt j))) 255)
+
+all-dark : (e d : Bool) → T (every (λ i. every (dark e d i) 5) 5)
+unfolding every dark litColour halfRay along flat Vectors.dot Vectors.length sqrtOf roundRoot root rootAt nearZero ofBits toBits ofInt toUnsigned add mul div sum round units odd size span climb trailingZeros lt le eq neg
+all-dark true true = tt
+all-dark true false = tt
+all-dark false true = tt
+all-dark false false = tt
+
+leaning : (e d : Bool) (i j : ℕ) → i < 5 → j < 5 → (i ≡ 0 → j ≡ 0 → ⊥) → shade above (normal (factorOf e d) (factorOf d e) (tilt i) (tilt j)) < 255
+unfolding dark
+leaning e d i j p q s =
+    let t = below (dark e d i) 5 (below (λ i. every (dark e d i) 5) 5 (all-dark e d) i p) j q in
+    let z = ne-eqb (i + j) 0 (λ z. s (omega arith) (omega arith)) in
+    ltb→lt _ _ (rw z at t)
+
+-- ---- a clear sheet, and one whose pixel in column u and row v is opaque
+module _ (w h u v : ℕ) (p : u < w) (q : v < h) where
+  clear : List ℕ
+  clear = allBut (4 * w * h) 0 (byteAt w u v 3) 0
+
+  spot : List ℕ
+  spot = allBut (4 * w * h) 0 (byteAt w u v 3) 255
+
+  within-sheet : byteAt w u v 3 < 4 * w * h
+  within-sheet = place-inside w h u v 3 p q (omega arith)
+
+  clear-alpha : (x y : ℕ) → x < w → y < h → alphaAt w clear x y ≡ 0
+  unfolding clear
+  clear-alpha x y a b = all-same (4 * w * h) 0 (byteAt w u v 3) within-sheet (byteAt w x y 3) (place-inside w h x y 3 a b (omega arith))
+
+  spot-on : alphaAt w spot u v ≡ 255
+  unfolding spot
+  spot-on = at-but (4 * w * h) 0 (byteAt w u v 3) within-sheet 255
+
+  spot-off : (x y : ℕ) → x < w → y < h → (x ≡ u → y ≡ v → ⊥) → alphaAt w spot x y ≡ 0
+  unfolding spot
+  spot-off x y a b d = not-at-but (4 * w * h) 0 (byteAt w u v 3) within-sheet 255 (byteAt w x y 3) (place-inside w h x y 3 a b (omega arith)) (λ e. d (same-column e) (same-row e))
+    where
+      same-column : byteAt w x y 3 ≡ byteAt w u v 3 → x ≡ u
+      same-column e = sym (column-of-place w x y 3 a (omega arith)) ∙ (ap (column w) e ∙ column-of-place w u v 3 p (omega arith))
+
+      same-row : byteAt w x y 3 ≡ byteAt w u v 3 → y ≡ v
+      same-row e = sym (row-of-place w x y 3 a (omega arith)) ∙ (ap (row w) e ∙ row-of-place w u v 3 p (omega arith))
+
+  -- they differ at that pixel's alpha alone
+  bytes-of : (c : ℕ) → c ≤ 255 → Bytes (allBut (4 * w * h) 0 (byteAt w u v 3) c)
+  bytes-of c hc = bytes-inside (allBut (4 * w * h) 0 (byteAt w u v 3) c) (λ i l. go i (let z = length-all-but (4 * w * h) 0 (byteAt w u v 3) within-sheet c in omega arith) (ℕ-discrete i (byteAt w u v 3)))
+    where
+      go : (i : ℕ) → i < 4 * w * h → Dec (i ≡ byteAt w u v 3) → getD (allBut (4 * w * h) 0 (byteAt w u v 3) c) i 0 ≤ 255
+      go i l (yes e) = let z = at-but (4 * w * h) 0 (byteAt w u v 3) within-sheet c in rw (e, z) hc
+      go i l (no d) = rw (not-at-but (4 * w * h) 0 (byteAt w u v 3) within-sheet c i l d) (omega arith)
+
+  apart : Apart (4 * w * h) (byteAt w u v 3) clear spot
+  unfolding clear spot
+  apart = record {
+    first-length = length-all-but (4 * w * h) 0 (byteAt w u v 3) within-sheet 0;
+    second-length = length-all-but (4 * w * h) 0 (byteAt w u v 3) within-sheet 255;
+    first-bytes = bytes-of 0 (omega arith);
+    second-bytes = bytes-of 255 (omega arith);
+    same = λ i d. getD-set-other (replicate (4 * w * h) 0) (byteAt w u v 3) i 0 0 d ∙ sym (getD-set-other (replicate (4 * w * h) 0) (byteAt w u v 3) i 255 0 d);
+    different = λ e. let a = at-but (4 * w * h) 0 (byteAt w u v 3) within-sheet 0 in let b = at-but (4 * w * h) 0 (byteAt w u v 3) within-sheet 255 in omega arith;
+  }
+
+  -- ---- how the pixel in column x and row y leans
+  module _ (x y : ℕ) (hx : x < w) (hy : y < h) where
+    clear-normal : normalAt w h clear x y ≡ normal (leanFactor w h x y) (leanFactor h w y x) (pos 0) (pos 0)
+    unfolding normalAt lean
+    clear-normal =
+        rw (
+          weighted-none h (alphaAt w clear (ahead w x)) y hy (λ j l. clear-alpha (ahead w x) j (omega arith) l),
+          weighted-none h (alphaAt w clear (behind x)) y hy (λ j l. clear-alpha (behind x) j (omega arith) l),
+          weighted-none w (λ i. alphaAt w clear i (ahead h y)) x hx (λ i l. clear-alpha i (ahead h y) l (omega arith)),
+          weighted-none w (λ i. alphaAt w clear i (behind y)) x hx (λ i l. clear-alpha i (behind y) l (omega arith)),
+        )
+
+    module _ (two : 1 < w) (too : 1 < h) (a₁ : x ≤ u + 1) (a₂ : u ≤ x + 1) (b₁ : y ≤ v + 1) (b₂ : v ≤ y + 1) where
+      tilt-x : Tilted ((u ≡ ahead w x) ⊎ (u ≡ behind x)) (lean w h (alphaAt w spot) x y)
+      tilt-x =
+          tilted w h (alphaAt w spot) x y u v hx hy q b₁ b₂ two
+          (record { on = spot-on; off = λ i l d. spot-off u i p l (λ e f. d f) })
+          (λ k l d i m. spot-off k i l m (λ e f. d e))
+
+      tilt-y : Tilted ((v ≡ ahead h y) ⊎ (v ≡ behind y)) (lean h w (λ j i. alphaAt w spot i j) y x)
+      tilt-y =
+          tilted h w (λ j i. alphaAt w spot i j) y x v u hy hx p a₁ a₂ too
+          (record { on = spot-on; off = λ i l d. spot-off i v l q (λ e f. d e) })
+          (λ k l d i m. spot-off i k m l (λ e f. d f))
+
+      -- where the opaque pixel is another one
+      spot-dark : (x ≡ u → y ≡ v → ⊥) → shade above (normalAt w h spot x y) < 255
+      unfolding normalAt leanFactor
+      spot-dark d =
+          rw (tilt-x .is, tilt-y .is)
+          (leaning (atEdge w x) (atEdge h y) (tilt-x .which) (tilt-y .which) (tilt-x .few) (tilt-y .few)
+          (λ e f. d (level-x e) (level-y f)))
+        where
+          level-x : tilt-x .which ≡ 0 → x ≡ u
+          level-x e = go (ℕ-discrete x u)
+            where
+              go : Dec (x ≡ u) → x ≡ u
+              go (yes z) = z
+              go (no z) = absurd (tilt-x .some (beside z (ℕ-discrete u (behind x))) e)
+                where
+                  beside : (x ≡ u → ⊥) → Dec (u ≡ behind x) → (u ≡ ahead w x) ⊎ (u ≡ behind x)
+                  beside z (yes s) = inr s
+                  beside z (no s) = inl (omega arith)
+
+          level-y : tilt-y .which ≡ 0 → y ≡ v
+          level-y e = go (ℕ-discrete y v)
+            where
+              go : Dec (y ≡ v) → y ≡ v
+              go (yes z) = z
+              go (no z) = absurd (tilt-y .some (beside z (ℕ-discrete v (behind y))) e)
+                where
+                  beside : (y ≡ v → ⊥) → Dec (v ≡ behind y) → (v ≡ ahead h y) ⊎ (v ≡ behind y)
+                  beside z (yes s) = inr s
+                  beside z (no s) = inl (omega arith)
+
+-- ---- a byte of white specular light is its shade
+channel-white : (f : Float) (c : ℕ) → litChannel Specular white f c ≡ litColour 255 f
+channel-white f c = go (eqb c 3) (colour c)
+  where
+    colour : (c : ℕ) → litColour (colourOf white c) f ≡ litColour 255 f
+    colour zero = refl
+    colour (suc zero) = refl
+    colour (suc (suc c)) = refl
+
+    go : (t : Bool) → litColour (colourOf white c) f ≡ litColour 255 f → cond t (max (max (litColour 255 f) (litColour 255 f)) (litColour 255 f)) (litColour (colourOf white c) f) ≡ litColour 255 f
+    go true e = omega arith
+    go false e = e
+
+module _ (light : LightSource) (w h : ℕ) (p : 3 ≤ w) (q : 3 ≤ h) (s : List ℕ) (k : ℕ) (l : k < 4 * w * h) where
+  byte-shade : getD (lit (specular light c256 c1 white) w h s) k 0 ≡ shade (rayOf Specular (lightVector light c256 (alphaAt w s (column w k) (row w k)) (column w k) (row w k))) (normalAt w h s (column w k) (row w k))
+  unfolding small factorAt
+  byte-shade =
+      byte-lit (specular light c256 c1 white) w h s k l ∙ rw (le-ltb w 3 p, le-ltb h 3 q) (channel-white (factorAt (specular light c256 c1 white) w h s (column w k) (row w k)) (k % 4))
+
+-- ---- the lights
+-- a light with which a specular lighting is accepted, and byte k needs byte j
+pub record NeededBy (w h k j : ℕ) : Type 0 where
+  pub light : LightSource
+  pub accepted : specularAnswer light c256 c1 c1 ≡ Done
+  pub needs : Needed (4 * w * h) j k (lit (specular light c256 c1 white) w h)
+
+above-accepted : specularAnswer (Distant c0 c0 c1) c256 c1 c1 ≡ Done
+unfolding specularAnswer finiteNumbers numbersInRange unitTriple ofBits le lt eq
+above-accepted = refl
+
+module _ (w h : ℕ) (p : 3 ≤ w) (q : 3 ≤ h) (k : ℕ) (l : k < 4 * w * h) (u v : ℕ) (hu : u < w) (hv : v < h) where
+  round-needed : column w k ≤ u + 1 → u ≤ column w k + 1 → row w k ≤ v + 1 → v ≤ row w k + 1 → (column w k ≡ u → row w k ≡ v → ⊥) → NeededBy w h k (byteAt w u v 3)
+  round-needed a₁ a₂ b₁ b₂ d =
+      let wide : 0 < w = omega arith in
+      let hx = column-inside w h k wide l in
+      let hy = row-inside w h k wide l in
+      record {
+        light = Distant c0 c0 c1;
+        accepted = above-accepted;
+        needs = record {
+          first = clear w h u v hu hv;
+          second = spot w h u v hu hv;
+          apart = apart w h u v hu hv;
+          told = λ e.
+              let lit-clear = byte-shade (Distant c0 c0 c1) w h p q (clear w h u v hu hv) k l ∙ (ap (shade above) (clear-normal w h u v hu hv (column w k) (row w k) hx hy) ∙ bright _ _) in
+              let lit-spot = byte-shade (Distant c0 c0 c1) w h p q (spot w h u v hu hv) k l in
+              let less = spot-dark w h u v hu hv (column w k) (row w k) hx hy (omega arith) (omega arith) a₁ a₂ b₁ b₂ d in
+              omega arith;
+        };
+      }
+
+-- ---- a point just above a pixel
+abbrev asFloat : ℕ → Float
+asFloat n = ofInt binary32 (pos n)
+
+-- x is +0
+nought : Float → Bool
+nought nan = false
+nought (inf s) = false
+nought (fin true m e) = false
+nought (fin false (suc m) e) = false
+nought (fin false zero (negsuc k)) = false
+nought (fin false zero (pos (suc k))) = false
+nought (fin false zero (pos zero)) = true
+
+nought-is : (x : Float) → T (nought x) → x ≡ c0
+unfolding nought ofBits
+nought-is nan t = absurd t
+nought-is (inf s) t = absurd t
+nought-is (fin true m e) t = absurd t
+nought-is (fin false (suc m) e) t = absurd t
+nought-is (fin false zero (negsuc k)) t = absurd t
+nought-is (fin false zero (pos (suc k))) t = absurd t
+nought-is (fin false zero (pos zero)) t = refl
+
+-- a column or a row as a float less itself is +0, and it is in range
+sound : ℕ → Bool
+sound n = nought (asFloat n ⊖ asFloat n) && (finite (asFloat n) && (le m65536 (asFloat n) && le (asFloat n) c65536))
+
+all-sound : T (every sound 2048)
+unfolding every sound nought ofInt ofBits add sub sum neg round units odd size span climb trailingZeros lt le eq
+all-sound = tt
+
+-- each of four tests that pass together
+all-four : (a b c d : Bool) → T (a && (b && (c && d))) → T a × (b ≡ true) × (c ≡ true) × (d ≡ true)
+all-four true true true true t = (tt, refl, refl, refl)
+all-four true true true false t = absurd t
+all-four true true false d t = absurd t
+all-four true false c d t = absurd t
+all-four false b c d t = absurd t
+
+module _ (n : ℕ) (l : n < 2048) where
+  sound-at : T (nought (asFloat n ⊖ asFloat n)) × (finite (asFloat n) ≡ true) × (le m65536 (asFloat n) ≡ true) × (le (asFloat n) c65536 ≡ true)
+  unfolding sound
+  sound-at = all-four (nought (asFloat n ⊖ asFloat n)) (finite (asFloat n)) (le m65536 (asFloat n)) (le (asFloat n) c65536) (below sound 2048 all-sound n l)
+
+  less-itself : asFloat n ⊖ asFloat n ≡ c0
+  less-itself = nought-is (asFloat n ⊖ asFloat n) (sound-at .0)
+
+clear-below-it : Vectors.unitOf (vector c0 c0 (c1 ⊖ normalized 0 ⊗ c256)) ≡ vector c0 c0 c1
+unfolding normalized Vectors.unitOf Vectors.dot Vectors.length sqrtOf roundRoot root rootAt nearZero ofBits toBits ofInt add sub mul div sum round units odd size span climb trailingZeros lt le eq neg
+clear-below-it = refl
+
+opaque-above-it : halfRay (Vectors.unitOf (vector c0 c0 (c1 ⊖ normalized 255 ⊗ c256))) ≡ Short
+unfolding halfRay normalized Vectors.unitOf Vectors.dot Vectors.length sqrtOf roundRoot root rootAt nearZero ofBits toBits ofInt add sub mul div sum round units odd size span climb trailingZeros lt le eq neg
+opaque-above-it = refl
+
+unlit : (n : Normal) → shade Short n ≡ 0
+unfolding litColour ofBits ofInt toUnsigned add mul sum round units odd size span climb trailingZeros lt le eq
+unlit n = refl
+
+the-rest : specularAnswer (Point c1 c1 c1) c256 c1 c1 ≡ Done
+unfolding specularAnswer finiteNumbers numbersInRange ofBits le lt eq
+the-rest = refl
+
+module _ (x y : ℕ) (p : x < 2048) (q : y < 2048) where
+  point-accepted : specularAnswer (Point (asFloat x) (asFloat y) c1) c256 c1 c1 ≡ Done
+  unfolding specularAnswer finiteNumbers numbersInRange ofBits le
+  point-accepted =
+      let a = sound-at x p in
+      let b = sound-at y q in
+      rw (a .1, b .1, a .2, a .3, b .2, b .3) the-rest
+
+  -- from a clear pixel the point is straight above, and from an opaque one straight below
+  from-clear : toPoint (asFloat x) (asFloat y) c1 c256 0 x y ≡ vector c0 c0 c1
+  unfolding toPoint
+  from-clear = rw (less-itself x p, less-itself y q) clear-below-it
+
+  from-opaque : halfRay (toPoint (asFloat x) (asFloat y) c1 c256 255 x y) ≡ Short
+  unfolding toPoint
+  from-opaque = rw (less-itself x p, less-itself y q) opaque-above-it
+
+module _ (w h : ℕ) (p : 3 ≤ w) (q : 3 ≤ h) (a : w ≤ 2048) (b : h ≤ 2048) (k : ℕ) (l : k < 4 * w * h) where
+  own-needed : NeededBy w h k (byteAt w (column w k) (row w k) 3)
+  own-needed =
+      let wide : 0 < w = omega arith in
+      let hx = column-inside w h k wide l in
+      let hy = row-inside w h k wide l in
+      let nx : column w k < 2048 = omega arith in
+      let ny : row w k < 2048 = omega arith in
+      let light = Point (asFloat (column w k)) (asFloat (row w k)) c1 in
+      let cl = clear w h (column w k) (row w k) hx hy in
+      let sp = spot w h (column w k) (row w k) hx hy in
+      record {
+        light = light;
+        accepted = point-accepted (column w k) (row w k) nx ny;
+        needs = record {
+          first = cl;
+          second = sp;
+          apart = apart w h (column w k) (row w k) hx hy;
+          told = λ e.
+              let e₁ = ap (λ (c : ℕ). shade (halfRay (toPoint (asFloat (column w k)) (asFloat (row w k)) c1 c256 c (column w k) (row w k))) (normalAt w h cl (column w k) (row w k))) (clear-alpha w h (column w k) (row w k) hx hy (column w k) (row w k) hx hy) in
+              let e₂ = ap (λ v. shade (halfRay v) (normalAt w h cl (column w k) (row w k))) (from-clear (column w k) (row w k) nx ny) in
+              let e₃ = ap (shade above) (clear-normal w h (column w k) (row w k) hx hy (column w k) (row w k) hx hy) in
+              let lit-clear = byte-shade light w h p q cl k l ∙ (e₁ ∙ (e₂ ∙ (e₃ ∙ bright _ _))) in
+              let f₁ = ap (λ (c : ℕ). shade (halfRay (toPoint (asFloat (column w k)) (asFloat (row w k)) c1 c256 c (column w k) (row w k))) (normalAt w h sp (column w k) (row w k))) (spot-on w h (column w k) (row w k) hx hy) in
+              let f₂ = ap (λ r. shade r (normalAt w h sp (column w k) (row w k))) (from-opaque (column w k) (row w k) nx ny) in
+              let lit-spot = byte-shade light w h p q sp k l ∙ (f₁ ∙ (f₂ ∙ unlit (normalAt w h sp (column w k) (row w k)))) in
+              omega arith;
+        };
+      }
+
+  -- every byte that byte k reads
+  pub reads-needed : (j : ℕ) → Reads w h k j → NeededBy w h k j
+  reads-needed j r = rw (r .is) (go (ℕ-discrete (column w k) (r .x)) (ℕ-discrete (row w k) (r .y)))
+    where
+      go : Dec (column w k ≡ r .x) → Dec (row w k ≡ r .y) → NeededBy w h k (byteAt w (r .x) (r .y) 3)
+      go (yes e) (yes f) = rw (← e, ← f) own-needed
+      go (no e) f = round-needed w h p q k l (r .x) (r .y) (r .near-column .inside) (r .near-row .inside) (r .near-column .low) (r .near-column .high) (r .near-row .low) (r .near-row .high) (λ z s. e z)
+      go (yes e) (no f) = round-needed w h p q k l (r .x) (r .y) (r .near-column .inside) (r .near-row .inside) (r .near-column .low) (r .near-column .high) (r .near-row .low) (r .near-row .high) (λ z s. f s)

@@ -1,0 +1,116 @@
+// One pixel: how strongly it is lit, and its bytes.
+use crate::light::LightSource;
+use crate::light::Ray;
+use crate::light::Reflection;
+use crate::surface::Normal;
+use crate::vector::Vector3;
+use sheet::pixel::Premultiplied;
+use sheet::pixel::Straight;
+ghost use mathlib.Core.Path.{_≡_};
+ghost use Prim.Native.Nat.{_+_, _<_, max};
+ghost use lib.ListN.{length};
+ghost use Rattle.lighting.specs.Light as Light;
+ghost use Rattle.lighting.specs.Lighting.{litColour};
+ghost use Rattle.lighting.specs.inner.Pixels.{Lit, PutLit};
+
+// A light's colour.
+pub struct Color {
+    pub red: u8,
+    pub green: u8,
+    pub blue: u8,
+}
+
+// All that a sheet is lit by.
+pub struct Lighting {
+    pub reflection: Reflection,
+    pub light: LightSource,
+    pub scale: f32,
+    pub constant: f32,
+    pub color: Color,
+}
+
+fn is_flat(normal: Normal) -> bool
+    ensures { λ r. ⌜ r ≡ Light.flat normal ⌝ }
+{
+    if floats::near_zero(normal.x) {
+        floats::near_zero(normal.y)
+    } else {
+        false
+    }
+}
+
+// The surface's normal vector.
+fn normal_vector(scale: f32, normal: Normal) -> Vector3
+    ensures { λ r. ⌜ r ≡ Light.normalVector scale normal ⌝ }
+{
+    Vector3 {
+        x: normal.x * (scale / 255.0) * normal.fx,
+        y: normal.y * (scale / 255.0) * normal.fy,
+        z: 1.0,
+    }
+}
+
+// How far v goes along the surface's normal.
+fn along(scale: f32, normal: Normal, v: Vector3) -> f32
+    ensures { λ r. ⌜ r ≡ Light.along scale normal v ⌝ }
+{
+    if is_flat(normal) {
+        return v.z;
+    }
+    let n = normal_vector(scale, normal);
+    n.dot(v) / n.length()
+}
+
+pub fn light_factor(scale: f32, constant: f32, normal: Normal, ray: Ray) -> f32
+    ensures { λ r. ⌜ r ≡ Light.lightFactor scale constant normal ray ⌝ }
+{
+    match ray {
+        Ray::Light(v) => constant * along(scale, normal, v),
+        Ray::Half(h, length) => constant * (along(scale, normal, h) / length),
+        Ray::Short => 0.0,
+    }
+}
+
+// A colour's channel by a factor.
+fn compute(c: u8, factor: f32) -> u8
+    ensures { λ r. ⌜ r ≡ litColour c factor ⌝ }
+{
+    floats::to_byte(floats::bound(0.0, (c as f32) * factor, 255.0) + 0.5)
+}
+
+fn larger(a: u8, b: u8) -> u8
+    ensures { λ r. ⌜ r ≡ max a b ⌝ }
+{
+    if a < b { b } else { a }
+}
+
+fn diffuse(color: Color, factor: f32) -> Straight
+    ensures { λ p. ⌜ Lit Reflection.Diffuse color factor (p .0) ⌝ }
+{
+    Straight::of(
+        compute(color.red, factor),
+        compute(color.green, factor),
+        compute(color.blue, factor),
+        255,
+    )
+}
+
+fn specular(color: Color, factor: f32) -> Premultiplied
+    ensures { λ p. ⌜ Lit Reflection.Specular color factor (p .0) ⌝ }
+{
+    let r = compute(color.red, factor);
+    let g = compute(color.green, factor);
+    let b = compute(color.blue, factor);
+    Premultiplied::of(r, g, b, larger(larger(r, g), b))
+}
+
+// Stores a pixel that is lit by a factor at the bytes from k on.
+pub fn put(dest: &mut [u8], k: usize, reflection: Reflection, color: Color, factor: f32)
+    requires { ⌜ k + 3 < length (now dest) ⌝ }
+    ensures { λ _. ⌜ PutLit reflection color factor (now (dest .entry)) k (now (dest .exit)) ⌝ }
+{
+    match reflection {
+        Reflection::Diffuse => sheet::pixel::put_straight(dest, k, diffuse(color, factor)),
+        Reflection::Specular => sheet::pixel::put_premultiplied(dest, k, specular(color, factor)),
+    }
+}
