@@ -13,18 +13,20 @@ use lib.Ieee.{Float}
 use Rattle.sheet.specs.declared.Answer.the-variants.{Done}
 use Rattle.sheet.specs.Size.{sheetsAnswer}
 use Rattle.sheet.proofs.Answers.{cond-true, cond-done, cond-passed, both-done, sheets-first}
-use Rattle.filter.specs.declared.recipe.Kind.{Kind}
-use Rattle.filter.specs.declared.recipe.Kind.the-variants as kind
-use Rattle.filter.specs.declared.recipe.Inputs.{Inputs}
-use Rattle.filter.specs.declared.recipe.Inputs.the-variants.{None, One, Two}
-use Rattle.filter.specs.declared.recipe.Step.{Step}
-use Rattle.filter.specs.declared.recipe.Recipe.{Recipe}
-use Rattle.filter.specs.declared.contents.Content.{Content}
-use Rattle.filter.specs.declared.contents.Contents.{Contents}
-use Rattle.filter.specs.Recipe.{isSheet, contentIn, holding, atFirst, inputsOf, workMakes, workAnswer, inputOk, inputsOk, slotsOk, slotAnswer, kindAnswer, stepAnswer, stepOf, stepLimit, contents, recipeAnswer, runAnswer}
-use Rattle.filter.specs.Slots.{Slots, slots, lengths}
-use Rattle.filter.specs.Engine.{Fits, IsInput, Legal}
-use Rattle.filter.proofs.Prefix.{each-done}
+use Rattle.recipe.specs.declared.Kind.{Kind}
+use Rattle.recipe.specs.declared.Kind.the-variants as kind
+use Rattle.recipe.specs.declared.Inputs.{Inputs}
+use Rattle.recipe.specs.declared.Inputs.the-variants.{None, One, Two}
+use Rattle.recipe.specs.declared.Step.{Step}
+use Rattle.recipe.specs.declared.Recipe.{Recipe}
+use Rattle.recipe.specs.declared.contents.Content.{Content}
+use Rattle.recipe.specs.declared.contents.Contents.{Contents}
+use Rattle.recipe.specs.Contents.{isSheet, contentIn, holding, atFirst, inputsOf, workMakes, contents}
+use Rattle.recipe.specs.Tests.{workAnswer, inputOk, inputsOk, slotsOk, slotAnswer, kindAnswer, stepAnswer, stepOf, stepLimit, recipeAnswer, runAnswer}
+use Rattle.filter.specs.Slots.{Slots, slots}
+use Rattle.filter.specs.Call.{lengths}
+use Rattle.filter.specs.inner.Engine.{Fits, IsInput, Legal}
+use Rattle.recipe.proofs.Prefix.{each-done}
 use Rattle.filter.proofs.Acting.{fits-of}
 
 -- ---- what a slot holds
@@ -64,6 +66,13 @@ held-other s (suc zero) new x h l n e = simp (ne-eqb s 1 n) (simp (ne-eqb s 1 n)
 held-other s (suc (suc zero)) new x h l n e = simp (ne-eqb s 2 n) (simp (ne-eqb s 2 n) at e)
 held-other s (suc (suc (suc zero))) new x h l n e = simp (ne-eqb s 3 n) (simp (ne-eqb s 3 n) at e)
 held-other s (suc (suc (suc (suc o)))) new x h l n e = absurd (not-suc-le-zero (le-of-suc-le-suc (le-of-suc-le-suc (le-of-suc-le-suc l))))
+
+pub held-kept : (s o : ℕ) (new : Content) (x : Contents) → 1 ≤ o → o ≤ 3 → (s ≡ o → ⊥) → Held s x → Held s (holding o new x)
+held-kept s zero new x h l n e = absurd (not-suc-le-zero h)
+held-kept s (suc zero) new x h l n e = simp (ne-eqb s 1 n) (simp (ne-eqb s 1 n) at e)
+held-kept s (suc (suc zero)) new x h l n e = simp (ne-eqb s 2 n) (simp (ne-eqb s 2 n) at e)
+held-kept s (suc (suc (suc zero))) new x h l n e = simp (ne-eqb s 3 n) (simp (ne-eqb s 3 n) at e)
+held-kept s (suc (suc (suc (suc o)))) new x h l n e = absurd (not-suc-le-zero (le-of-suc-le-suc (le-of-suc-le-suc (le-of-suc-le-suc l))))
 
 -- ---- a step that passed
 both-true : (p q : Bool) → cond p q false ≡ true → (p ≡ true) × (q ≡ true)

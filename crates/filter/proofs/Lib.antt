@@ -1,8 +1,8 @@
-pub mod Prefix
 pub mod Works
 pub mod Acting
 pub mod Accepted
 pub mod Isolation
 pub mod Reaching
 pub mod Running
-pub mod Settled
+pub mod Demands
+pub mod Example

@@ -1,4 +1,5 @@
-pub mod Recipe
+pub mod Demands
 pub mod Slots
+pub mod Call
 pub mod Reach
-pub mod Engine
+pub mod inner

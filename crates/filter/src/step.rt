@@ -1,29 +1,41 @@
 // What a step does: its work, read from the picked slots, is written to its output slot.
-use crate::recipe::Recipe;
-use crate::recipe::Step;
-use crate::recipe::Work;
 use color_matrix::ColorMatrix;
 use component_transfer::TransferFunction;
+use convolve_matrix::ConvolveMatrix;
+use displacement_map::ColorChannel;
+use lighting::Color;
+use lighting::LightSource;
 use morphology::MorphologyOperator;
+use recipe::Recipe;
+use recipe::Step;
+use recipe::Work;
+use sheet::Size;
+use turbulence::Turbulence;
 ghost use mathlib.Core.Path.{_≡_};
 ghost use mathlib.Core.List.{[], _∷_};
 ghost use Prim.Native.Nat.{ℕ, _*_, _≤_, _<_};
 ghost use lib.ListN.{length};
 ghost use Rattle.sheet.specs.declared.Answer.the-variants.{Done};
 ghost use Rattle.sheet.specs.Size.{sheetsAnswer};
+ghost use Rattle.sheet.specs.Contract.{was, became};
 ghost use Rattle.sheet.specs.Tabulate.{zeros};
 ghost use Rattle.morphology.specs.Morphology.{radiiAnswer, morphed};
 ghost use Rattle.composite.specs.Composite.{factorsAnswer, composed};
 ghost use Rattle.composite.specs.Arithmetic.{factors};
-ghost use Rattle.color_matrix.specs.ColorMatrix.{matrixAnswer, filtered};
-ghost use Rattle.component_transfer.specs.ComponentTransfer.{functionAnswer, functionsAnswer, transferred, byteOf};
-ghost use Rattle.filter.specs.Recipe.{workAnswer, stepOf};
+ghost use Rattle.color_matrix.specs.ColorMatrix.{matrixAnswer, recoloured};
+ghost use Rattle.component_transfer.specs.ComponentTransfer.{channelsAnswer, transferred, byteOf};
+ghost use Rattle.convolve_matrix.specs.ConvolveMatrix.{kernelAnswer, convolved};
+ghost use Rattle.displacement_map.specs.DisplacementMap.{scalesAnswer, displaced};
+ghost use Rattle.turbulence.specs.Turbulence.{turbulenceAnswer, drawn};
+ghost use Rattle.lighting.specs.Lighting.{diffuseAnswer, specularAnswer, lit, diffuse, specular};
+ghost use Rattle.recipe.specs.Tests.{workAnswer, stepOf, stepLimit};
 ghost use Rattle.filter.specs.Slots.{slots, slotOf, made, act, acts};
-ghost use Rattle.filter.specs.Engine.{Fits, Legal};
+ghost use Rattle.recipe.specs.Contents.{inputsOf};
+ghost use Rattle.filter.specs.inner.Engine.{Fits, IsInput, Legal};
 
-// The sheet in a slot.
-fn pick<'a>(slot: u8, a: &'a [u8], b: &'a [u8], c: &'a [u8], d: &'a [u8]) -> &'a [u8]
-    ensures { λ r. ⌜ now r ≡ slotOf (slots (now (a .entry)) (now (b .entry)) (now (c .entry)) (now (d .entry))) slot ⌝ }
+// The sheet in a slot; a slot outside 0..=3 has no bytes.
+fn pick<'a>(slot: u32, a: &'a [u8], b: &'a [u8], c: &'a [u8], d: &'a [u8]) -> &'a [u8]
+    ensures { λ r. ⌜ now r ≡ slotOf (slots (was a) (was b) (was c) (was d)) slot ⌝ }
 {
     if slot == 0 {
         a
@@ -31,8 +43,10 @@ fn pick<'a>(slot: u8, a: &'a [u8], b: &'a [u8], c: &'a [u8], d: &'a [u8]) -> &'a
         b
     } else if slot == 2 {
         c
-    } else {
+    } else if slot == 3 {
         d
+    } else {
+        &a[0..0]
     }
 }
 
@@ -40,18 +54,17 @@ fn morphology_into(
     operator: MorphologyOperator,
     rx: f32,
     ry: f32,
-    width: usize,
-    height: usize,
+    size: Size,
     src: &[u8],
     out: &mut [u8],
     scratch: &mut [u8],
 )
-    requires { ⌜ sheetsAnswer width height (length (now src) ∷ length (now out) ∷ length (now scratch) ∷ []) ≡ Done ⌝ }
+    requires { ⌜ sheetsAnswer (size .width) (size .height) (length (now src) ∷ length (now out) ∷ length (now scratch) ∷ []) ≡ Done ⌝ }
     requires { ⌜ radiiAnswer rx ry ≡ Done ⌝ }
-    ensures { λ _. ⌜ now (out .exit) ≡ morphed operator rx ry width height (now (src .entry)) ⌝ }
+    ensures { λ _. ⌜ became out ≡ morphed operator rx ry (size .width) (size .height) (was src) ⌝ }
 {
     sheet::copy(src, out);
-    morphology::apply(operator, rx, ry, width, height, out, scratch);
+    morphology::apply(operator, rx, ry, size.width, size.height, out, scratch);
 }
 
 fn arithmetic_into(
@@ -59,33 +72,25 @@ fn arithmetic_into(
     k2: f32,
     k3: f32,
     k4: f32,
-    width: usize,
-    height: usize,
+    size: Size,
     src1: &[u8],
     src2: &[u8],
     out: &mut [u8],
 )
-    requires { ⌜ sheetsAnswer width height (length (now src1) ∷ length (now src2) ∷ length (now out) ∷ []) ≡ Done ⌝ }
+    requires { ⌜ sheetsAnswer (size .width) (size .height) (length (now src1) ∷ length (now src2) ∷ length (now out) ∷ []) ≡ Done ⌝ }
     requires { ⌜ factorsAnswer k1 k2 k3 k4 ≡ Done ⌝ }
-    ensures { λ _. ⌜ now (out .exit) ≡ composed (factors k1 k2 k3 k4) (now (src1 .entry)) (now (src2 .entry)) ⌝ }
+    ensures { λ _. ⌜ became out ≡ composed (factors k1 k2 k3 k4) (was src1) (was src2) ⌝ }
 {
-    composite::arithmetic(k1, k2, k3, k4, width, height, src1, src2, out);
+    composite::arithmetic(k1, k2, k3, k4, size.width, size.height, src1, src2, out);
 }
 
-fn matrix_into(
-    matrix: ColorMatrix,
-    pool: &[f32],
-    width: usize,
-    height: usize,
-    src: &[u8],
-    out: &mut [u8],
-)
-    requires { ⌜ sheetsAnswer width height (length (now src) ∷ length (now out) ∷ []) ≡ Done ⌝ }
+fn matrix_into(matrix: ColorMatrix, pool: &[f32], size: Size, src: &[u8], out: &mut [u8])
+    requires { ⌜ sheetsAnswer (size .width) (size .height) (length (now src) ∷ length (now out) ∷ []) ≡ Done ⌝ }
     requires { ⌜ matrixAnswer matrix (now pool) ≡ Done ⌝ }
-    ensures { λ _. ⌜ now (out .exit) ≡ filtered matrix (now (pool .entry)) (now (src .entry)) ⌝ }
+    ensures { λ _. ⌜ became out ≡ recoloured matrix (was pool) (was src) ⌝ }
 {
     sheet::copy(src, out);
-    color_matrix::apply(matrix, pool, width, height, out);
+    color_matrix::apply(matrix, pool, size.width, size.height, out);
 }
 
 fn transfer_into(
@@ -94,25 +99,140 @@ fn transfer_into(
     b: TransferFunction,
     a: TransferFunction,
     pool: &[f32],
-    width: usize,
-    height: usize,
+    size: Size,
     src: &[u8],
     out: &mut [u8],
 )
-    requires { ⌜ sheetsAnswer width height (length (now src) ∷ length (now out) ∷ []) ≡ Done ⌝ }
-    requires { ⌜ functionsAnswer (functionAnswer r (now pool)) (functionAnswer g (now pool)) (functionAnswer b (now pool)) (functionAnswer a (now pool)) ≡ Done ⌝ }
-    ensures { λ _. ⌜ now (out .exit) ≡ transferred (byteOf r pool) (byteOf g pool) (byteOf b pool) (byteOf a pool) (now (src .entry)) ⌝ }
+    requires { ⌜ sheetsAnswer (size .width) (size .height) (length (now src) ∷ length (now out) ∷ []) ≡ Done ⌝ }
+    requires { ⌜ channelsAnswer r g b a (now pool) ≡ Done ⌝ }
+    ensures { λ _. ⌜ became out ≡ transferred (byteOf r pool) (byteOf g pool) (byteOf b pool) (byteOf a pool) (was src) ⌝ }
 {
     sheet::copy(src, out);
-    component_transfer::apply(r, pool, g, pool, b, pool, a, pool, width, height, out);
+    component_transfer::apply(
+        r,
+        pool,
+        g,
+        pool,
+        b,
+        pool,
+        a,
+        pool,
+        size.width,
+        size.height,
+        out,
+    );
+}
+
+fn convolve_into(
+    matrix: ConvolveMatrix,
+    pool: &[f32],
+    size: Size,
+    src: &[u8],
+    out: &mut [u8],
+    scratch: &mut [u8],
+)
+    requires { ⌜ sheetsAnswer (size .width) (size .height) (length (now src) ∷ length (now out) ∷ length (now scratch) ∷ []) ≡ Done ⌝ }
+    requires { ⌜ kernelAnswer matrix (now pool) ≡ Done ⌝ }
+    ensures { λ _. ⌜ became out ≡ convolved matrix (was pool) (size .width) (size .height) (was src) ⌝ }
+{
+    sheet::copy(src, out);
+    convolve_matrix::apply(matrix, pool, size.width, size.height, out, scratch);
+}
+
+fn displacement_into(
+    x_channel: ColorChannel,
+    y_channel: ColorChannel,
+    sx: f32,
+    sy: f32,
+    scale: f32,
+    size: Size,
+    src: &[u8],
+    map: &[u8],
+    out: &mut [u8],
+)
+    requires { ⌜ sheetsAnswer (size .width) (size .height) (length (now src) ∷ length (now map) ∷ length (now out) ∷ []) ≡ Done ⌝ }
+    requires { ⌜ scalesAnswer sx sy scale ≡ Done ⌝ }
+    ensures { λ _. ⌜ became out ≡ displaced «x_channel» «y_channel» sx sy scale (size .width) (size .height) (was src) (was map) ⌝ }
+{
+    displacement_map::apply(
+        x_channel,
+        y_channel,
+        sx,
+        sy,
+        scale,
+        size.width,
+        size.height,
+        src,
+        map,
+        out,
+    );
+}
+
+fn turbulence_into(t: Turbulence, size: Size, out: &mut [u8])
+    requires { ⌜ sheetsAnswer (size .width) (size .height) (length (now out) ∷ []) ≡ Done ⌝ }
+    requires { ⌜ turbulenceAnswer t ≡ Done ⌝ }
+    ensures { λ _. ⌜ became out ≡ drawn t (size .width) (size .height) ⌝ }
+{
+    turbulence::apply(t, size.width, size.height, out);
+}
+
+fn diffuse_into(
+    light: LightSource,
+    scale: f32,
+    constant: f32,
+    color: Color,
+    size: Size,
+    src: &[u8],
+    out: &mut [u8],
+)
+    requires { ⌜ sheetsAnswer (size .width) (size .height) (length (now src) ∷ length (now out) ∷ []) ≡ Done ⌝ }
+    requires { ⌜ diffuseAnswer light scale constant ≡ Done ⌝ }
+    ensures { λ _. ⌜ became out ≡ lit (diffuse light scale constant color) (size .width) (size .height) (was src) ⌝ }
+{
+    lighting::diffuse_lighting(
+        light,
+        scale,
+        constant,
+        color,
+        size.width,
+        size.height,
+        src,
+        out,
+    );
+}
+
+fn specular_into(
+    light: LightSource,
+    scale: f32,
+    constant: f32,
+    exponent: f32,
+    color: Color,
+    size: Size,
+    src: &[u8],
+    out: &mut [u8],
+)
+    requires { ⌜ sheetsAnswer (size .width) (size .height) (length (now src) ∷ length (now out) ∷ []) ≡ Done ⌝ }
+    requires { ⌜ specularAnswer light scale constant exponent ≡ Done ⌝ }
+    ensures { λ _. ⌜ became out ≡ lit (specular light scale constant color) (size .width) (size .height) (was src) ⌝ }
+{
+    lighting::specular_lighting(
+        light,
+        scale,
+        constant,
+        exponent,
+        color,
+        size.width,
+        size.height,
+        src,
+        out,
+    );
 }
 
 // Writes to `out` what the work makes of the slots a, b, c and d.
 fn work_into<'a>(
     work: Work,
     pool: &[f32],
-    width: usize,
-    height: usize,
+    size: Size,
     a: &'a [u8],
     b: &'a [u8],
     c: &'a [u8],
@@ -120,28 +240,47 @@ fn work_into<'a>(
     out: &mut [u8],
     scratch: &mut [u8],
 )
-    requires { ⌜ Fits width height (slots (now a) (now b) (now c) (now d)) (now scratch) ⌝ }
-    requires { ⌜ length (now out) ≡ 4 * width * height ⌝ }
+    requires { ⌜ Fits (size .width) (size .height) (slots (now a) (now b) (now c) (now d)) (now scratch) ⌝ }
+    requires { ⌜ length (now out) ≡ 4 * size .width * size .height ⌝ }
     requires { ⌜ workAnswer work (now pool) ≡ Done ⌝ }
-    ensures { λ _. ⌜ now (out .exit) ≡ made work (now (pool .entry)) width height (slotOf (slots (now (a .entry)) (now (b .entry)) (now (c .entry)) (now (d .entry)))) ⌝ }
+    requires { ⌜ ((s : ℕ) → IsInput (inputsOf work) s → s ≤ 3) ⌝ }
+    ensures { λ _. ⌜ became out ≡ made work (was pool) (size .width) (size .height) (slotOf (slots (was a) (was b) (was c) (was d))) ⌝ }
 {
     match work {
         Work::Morphology(s, operator, rx, ry) => {
             let src = pick(s, a, b, c, d);
-            morphology_into(operator, rx, ry, width, height, src, out, scratch)
+            morphology_into(operator, rx, ry, size, src, out, scratch)
         }
         Work::Arithmetic(s, t, k1, k2, k3, k4) => {
             let src1 = pick(s, a, b, c, d);
             let src2 = pick(t, a, b, c, d);
-            arithmetic_into(k1, k2, k3, k4, width, height, src1, src2, out)
+            arithmetic_into(k1, k2, k3, k4, size, src1, src2, out)
         }
         Work::ColorMatrix(s, matrix) => {
             let src = pick(s, a, b, c, d);
-            matrix_into(matrix, pool, width, height, src, out)
+            matrix_into(matrix, pool, size, src, out)
         }
         Work::ComponentTransfer(s, red, green, blue, alpha) => {
             let src = pick(s, a, b, c, d);
-            transfer_into(red, green, blue, alpha, pool, width, height, src, out)
+            transfer_into(red, green, blue, alpha, pool, size, src, out)
+        }
+        Work::ConvolveMatrix(s, matrix) => {
+            let src = pick(s, a, b, c, d);
+            convolve_into(matrix, pool, size, src, out, scratch)
+        }
+        Work::DisplacementMap(s, t, x_channel, y_channel, sx, sy, scale) => {
+            let src = pick(s, a, b, c, d);
+            let map = pick(t, a, b, c, d);
+            displacement_into(x_channel, y_channel, sx, sy, scale, size, src, map, out)
+        }
+        Work::Turbulence(t) => turbulence_into(t, size, out),
+        Work::DiffuseLighting(s, light, scale, constant, color) => {
+            let src = pick(s, a, b, c, d);
+            diffuse_into(light, scale, constant, color, size, src, out)
+        }
+        Work::SpecularLighting(s, light, scale, constant, exponent, color) => {
+            let src = pick(s, a, b, c, d);
+            specular_into(light, scale, constant, exponent, color, size, src, out)
         }
     }
 }
@@ -150,59 +289,25 @@ fn work_into<'a>(
 fn do_step(
     step: Step,
     pool: &[f32],
-    width: usize,
-    height: usize,
-    source: &[u8],
-    slot1: &mut [u8],
-    slot2: &mut [u8],
-    slot3: &mut [u8],
+    size: Size,
+    s0: &[u8],
+    s1: &mut [u8],
+    s2: &mut [u8],
+    s3: &mut [u8],
     scratch: &mut [u8],
 )
-    requires { ⌜ Fits width height (slots (now source) (now slot1) (now slot2) (now slot3)) (now scratch) ⌝ }
+    requires { ⌜ Fits (size .width) (size .height) (slots (now s0) (now s1) (now s2) (now s3)) (now scratch) ⌝ }
     requires { ⌜ Legal step (now pool) ⌝ }
-    ensures { λ _. ⌜ slots (now (source .entry)) (now (slot1 .exit)) (now (slot2 .exit)) (now (slot3 .exit)) ≡ act (now (pool .entry)) width height step (slots (now (source .entry)) (now (slot1 .entry)) (now (slot2 .entry)) (now (slot3 .entry))) ⌝ }
+    ensures { λ _. ⌜ slots (was s0) (became s1) (became s2) (became s3) ≡ act (was pool) (size .width) (size .height) step (slots (was s0) (was s1) (was s2) (was s3)) ⌝ }
 {
     let out = step.output;
     let work = step.work;
     if out == 1 {
-        work_into(
-            work,
-            pool,
-            width,
-            height,
-            source,
-            source,
-            &slot2[..],
-            &slot3[..],
-            slot1,
-            scratch,
-        );
+        work_into(work, pool, size, s0, s0, &s2[..], &s3[..], s1, scratch);
     } else if out == 2 {
-        work_into(
-            work,
-            pool,
-            width,
-            height,
-            source,
-            &slot1[..],
-            source,
-            &slot3[..],
-            slot2,
-            scratch,
-        );
+        work_into(work, pool, size, s0, &s1[..], s0, &s3[..], s2, scratch);
     } else {
-        work_into(
-            work,
-            pool,
-            width,
-            height,
-            source,
-            &slot1[..],
-            &slot2[..],
-            source,
-            slot3,
-            scratch,
-        );
+        work_into(work, pool, size, s0, &s1[..], &s2[..], s0, s3, scratch);
     }
 }
 
@@ -210,35 +315,24 @@ fn do_step(
 pub fn do_steps(
     recipe: Recipe,
     pool: &[f32],
-    width: usize,
-    height: usize,
-    source: &[u8],
-    slot1: &mut [u8],
-    slot2: &mut [u8],
-    slot3: &mut [u8],
+    size: Size,
+    s0: &[u8],
+    s1: &mut [u8],
+    s2: &mut [u8],
+    s3: &mut [u8],
     scratch: &mut [u8],
 )
-    requires { ⌜ Fits width height (slots (now source) (now slot1) (now slot2) (now slot3)) (now scratch) ⌝ }
-    requires { ⌜ recipe .count ≤ 16 ⌝ }
+    requires { ⌜ Fits (size .width) (size .height) (slots (now s0) (now s1) (now s2) (now s3)) (now scratch) ⌝ }
+    requires { ⌜ recipe .count ≤ stepLimit ⌝ }
     requires { ⌜ ((i : ℕ) → i < recipe .count → Legal (stepOf recipe i) (now pool)) ⌝ }
-    ensures { λ _. ⌜ slots (now (source .entry)) (now (slot1 .exit)) (now (slot2 .exit)) (now (slot3 .exit)) ≡ acts (now (pool .entry)) width height (stepOf recipe) (recipe .count) (slots (now (source .entry)) (now (slot1 .entry)) (now (slot2 .entry)) (now (slot3 .entry))) ⌝ }
-    ensures { λ _. ⌜ now (scratch .exit) ≡ zeros (length (now (scratch .entry))) ⌝ }
+    ensures { λ _. ⌜ slots (was s0) (became s1) (became s2) (became s3) ≡ acts (was pool) (size .width) (size .height) (stepOf recipe) (recipe .count) (slots (was s0) (was s1) (was s2) (was s3)) ⌝ }
+    ensures { λ _. ⌜ became scratch ≡ zeros (length (was scratch)) ⌝ }
 {
     let count = recipe.count;
     let mut i = 0;
     while i < count {
         let step = recipe.steps[i];
-        do_step(
-            step,
-            pool,
-            width,
-            height,
-            source,
-            slot1,
-            slot2,
-            slot3,
-            scratch,
-        );
+        do_step(step, pool, size, s0, s1, s2, s3, scratch);
         i += 1;
     }
     sheet::clear(scratch);

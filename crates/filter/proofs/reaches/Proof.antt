@@ -20,10 +20,12 @@ returns : tie.Need-returns
 returns c = reaches-refused (c .before .before .run-answer .ensures) (refusing (c .before .before .run-answer .result) (c .before .match .keys2))
 
 result-reaches-requires : tie.Need-result-reaches-requires
-result-reaches-requires c κs = let d = sym (c .before .before .run-answer .ensures) ∙ c .enum-told .given .1 in let p = recipe-passed _ _ _ _ _ _ d in (count-some _ _ _ p, count-few _ _ _ p)
+result-reaches-requires c κs =
+    let p = recipe-passed _ _ _ _ _ _ (sym (c .before .before .run-answer .ensures) ∙ c .enum-told .given .1) in
+    (count-some _ _ _ p, count-few _ _ _ p)
 
 returns-2 : tie.Need-returns-2
-returns-2 c = reaches-done (sym (c .before .before .before .run-answer .ensures) ∙ c .before .enum-told .given .1) (c .result-reaches .ensures)
+returns-2 c = reaches-done (c .before .before .before .run-answer .ensures) (c .before .enum-told .given .1) (c .result-reaches .ensures)
 
 pub reaches-spec : {M : Type 1} → statement M
 reaches-spec =

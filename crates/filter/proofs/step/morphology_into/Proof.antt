@@ -1,15 +1,16 @@
 -- The picked sheet is copied, and its call passes the tests that the runner passed.
 use borrow.Author.Needs.{needs}
-use mathlib.Core.Path.{ap}
+use mathlib.Core.Path.{ap, _∙_}
+use mathlib.Core.List.{[], _∷_}
 use lib.ListN.{length}
-use Rattle.sheet.proofs.Contracts.{filtered-new}
-use Rattle.morphology.specs.Morphology.{answer}
-use Rattle.filter.proofs.Acting.{passed, equally-long, copy-fits}
+use Rattle.sheet.proofs.Contracts.{holds-new}
+use Rattle.morphology.specs.Morphology.{answer, morphed}
+use Rattle.filter.proofs.Acting.{passed, copied-whole, copy-fits}
 use Rattle.filter.proofs.step.morphology_into.Statement.{statement}
 use Rattle.filter.proofs.step.morphology_into.Tie as tie
 
 copy-requires : tie.Need-copy-requires
-copy-requires c κs = equally-long (c .before .before .before .before .args .width) (c .before .before .before .before .args .height) _ _ _ (c .before .before .before .before .pre .0)
+copy-requires c κs = search needs
 
 apply-requires : tie.Need-apply-requires
 apply-requires c κs = search needs
@@ -22,7 +23,13 @@ same-length-2 c = search needs
 
 returns : tie.Need-returns
 unfolding answer
-returns c = cc (filtered-new (c .before .before .before .before .apply .ensures .0) (passed (copy-fits (c .before .before .before .before .before .before .before .before .before .before .before .before .before .before .args .width) (c .before .before .before .before .before .before .before .before .before .before .before .before .before .before .args .height) _ _ _ (c .before .before .before .before .before .before .before .before .before .before .before .before .before .before .pre .0) (ap length (c .before .before .before .before .before .before .before .before .before .copy .ensures))) (c .before .before .before .before .before .before .before .before .before .before .before .before .before .before .pre .1)), c .before .before .before .before .before .before .before .before .before .copy .ensures)
+returns c =
+    let the-copy = c .before .before .before .before .before .before .before .before .before .copy in
+    let a = c .before .before .before .before .before .before .before .before .before .before .before .before .before .before .args in
+    let pre = c .before .before .before .before .before .before .before .before .before .before .before .before .before .before .pre in
+    let rest = length (a .scratch .now) ∷ [] in
+    let copied = the-copy .ensures ∙ copied-whole (a .size .width) (a .size .height) (a .src .now) (a .out .now) rest (pre .0) in
+    holds-new (c .before .before .before .before .apply .ensures .0 .held) (passed (copy-fits (a .size .width) (a .size .height) (a .src .now) (a .out .now) rest (pre .0) copied) (pre .1)) ∙ ap (morphed (a .operator) (a .rx) (a .ry) (a .size .width) (a .size .height)) copied
 
 pub morphology-into-spec : {M : Type 1} → statement M
 morphology-into-spec =

@@ -1,0 +1,20 @@
+-- Its call passes the tests that the runner passed.
+use borrow.Author.Needs.{needs}
+use Rattle.sheet.proofs.Contracts.{holds-new}
+use Rattle.turbulence.specs.Turbulence.{answer}
+use Rattle.filter.proofs.Acting.{passed}
+use Rattle.filter.proofs.step.turbulence_into.Statement.{statement}
+use Rattle.filter.proofs.step.turbulence_into.Tie as tie
+
+apply-requires : tie.Need-apply-requires
+apply-requires c κs = search needs
+
+same-length : tie.Need-same-length
+same-length c = search needs
+
+returns : tie.Need-returns
+unfolding answer
+returns c = holds-new (c .before .before .apply .ensures .held) (passed (c .before .before .before .before .before .pre .0) (c .before .before .before .before .before .pre .1))
+
+pub turbulence-into-spec : {M : Type 1} → statement M
+turbulence-into-spec = tie.close (tie.spec apply-requires same-length returns)

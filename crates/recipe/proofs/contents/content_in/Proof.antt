@@ -1,0 +1,22 @@
+-- Each return follows the tests on the slot.
+use Rattle.sheet.proofs.Answers.{tests}
+use Rattle.recipe.proofs.contents.content_in.Statement.{statement}
+use Rattle.recipe.proofs.contents.content_in.Tie as tie
+
+returns : tie.Need-returns
+returns c = search tests
+
+returns-2 : tie.Need-returns-2
+returns-2 c = search tests
+
+returns-3 : tie.Need-returns-3
+returns-3 c = search tests
+
+returns-4 : tie.Need-returns-4
+returns-4 c = search tests
+
+returns-5 : tie.Need-returns-5
+returns-5 c = search tests
+
+pub content-in-spec : {M : Type 1} → statement M
+content-in-spec = tie.close (tie.spec returns returns-2 returns-3 returns-4 returns-5)
