@@ -4,6 +4,7 @@ use crate::output;
 use crate::recipes;
 use crate::recipes::Builtin;
 use sheet::Answer;
+use sheet::Size;
 ghost use mathlib.Core.Path.{_≡_};
 ghost use lib.ListN.{length};
 
@@ -14,15 +15,14 @@ pub const PIXELS: usize = 307200;
 const SHEET: usize = 4 * PIXELS;
 
 // Filters a picture and writes the result.
-pub fn filter_picture(builtin: Builtin, width: usize, height: usize, source: &[u8]) {
+pub fn filter_picture(builtin: Builtin, size: Size, source: &[u8]) {
     let mut slot1 = [0u8; SHEET];
     let mut slot2 = [0u8; SHEET];
     let mut slot3 = [0u8; SHEET];
     let mut scratch = [0u8; SHEET];
     filter_on(
         builtin,
-        width,
-        height,
+        size,
         source,
         &mut slot1,
         &mut slot2,
@@ -34,22 +34,20 @@ pub fn filter_picture(builtin: Builtin, width: usize, height: usize, source: &[u
 // The arrays are lent as arrays, whose length is their type's, and from here on as slices.
 fn filter_on(
     builtin: Builtin,
-    width: usize,
-    height: usize,
+    size: Size,
     source: &[u8],
     slot1: &mut [u8; SHEET],
     slot2: &mut [u8; SHEET],
     slot3: &mut [u8; SHEET],
     scratch: &mut [u8; SHEET],
 ) {
-    lend(builtin, width, height, source, slot1, slot2, slot3, scratch);
+    lend(builtin, size, source, slot1, slot2, slot3, scratch);
 }
 
 // Lends as much of each sheet as the picture takes.
 fn lend(
     builtin: Builtin,
-    width: usize,
-    height: usize,
+    size: Size,
     source: &[u8],
     slot1: &mut [u8],
     slot2: &mut [u8],
@@ -68,8 +66,7 @@ fn lend(
     }
     run(
         builtin,
-        width,
-        height,
+        size,
         source,
         &mut slot1[..n],
         &mut slot2[..n],
@@ -81,8 +78,7 @@ fn lend(
 // Runs the recipe, and writes slot 3.
 fn run(
     builtin: Builtin,
-    width: usize,
-    height: usize,
+    size: Size,
     source: &[u8],
     slot1: &mut [u8],
     slot2: &mut [u8],
@@ -94,8 +90,7 @@ fn run(
         recipes::recipe(builtin),
         recipes::kind(builtin),
         &pool,
-        width,
-        height,
+        size,
         source,
         slot1,
         slot2,
@@ -106,7 +101,7 @@ fn run(
         messages::refused(answer);
         return;
     };
-    if !output::write(width, height, slot3) {
+    if !output::write(size.width, size.height, slot3) {
         messages::say(b"the picture was not written whole");
     }
 }

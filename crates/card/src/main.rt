@@ -10,6 +10,7 @@ use pam::Fault;
 use pam::Picture;
 use recipes::Asked;
 use recipes::Builtin;
+use sheet::Size;
 
 // One byte more than is taken: the most pixels and 4,096 bytes of a header.
 const FILE: usize = 4 * PIXELS + 4097;
@@ -53,7 +54,7 @@ fn filter_file(builtin: Builtin, space: &mut [u8]) {
     match picture {
         Picture::Wrong(fault) => messages::wrong(fault, PIXELS),
         Picture::Taken(width, height, start) => {
-            filtering::filter_picture(builtin, width, height, pixels(file, start))
+            filtering::filter_picture(builtin, Size { width, height }, pixels(file, start))
         }
     }
 }

@@ -3,6 +3,7 @@ use color_matrix::ColorMatrix;
 use component_transfer::TransferFunction;
 use filter::Kind;
 use filter::Recipe;
+use filter::STEP_LIMIT;
 use filter::Step;
 use filter::Work;
 use morphology::MorphologyOperator;
@@ -93,15 +94,9 @@ pub fn pool() -> [f32; 24]
 
 // The picture dilated, less the picture: what the dilation added round its edges.
 fn outline() -> Recipe {
-    let dilate = Step {
-        work: Work::Morphology(0, MorphologyOperator::Dilate, 2.0, 2.0),
-        output: 1,
-    };
-    let less = Step {
-        work: Work::Arithmetic(1, 0, 0.0, 1.0, -1.0, 0.0),
-        output: 3,
-    };
-    let mut steps = [less; 16];
+    let dilate = Step::new(Work::Morphology(0, MorphologyOperator::Dilate, 2.0, 2.0), 1);
+    let less = Step::new(Work::Arithmetic(1, 0, 0.0, 1.0, -1.0, 0.0), 3);
+    let mut steps = [less; STEP_LIMIT];
     steps[0] = dilate;
     Recipe {
         steps: steps,
@@ -112,7 +107,7 @@ fn outline() -> Recipe {
 fn fade() -> Recipe {
     let numbers = Numbers {
         start: 0,
-        length: 20,
+        count: 20,
     };
     one(Work::ColorMatrix(0, ColorMatrix::Matrix(numbers)))
 }
@@ -121,19 +116,16 @@ fn fade() -> Recipe {
 fn poster() -> Recipe {
     let levels = TransferFunction::Discrete(Numbers {
         start: 20,
-        length: 4,
+        count: 4,
     });
     one(Work::ComponentTransfer(0, levels, levels, levels, TransferFunction::Identity))
 }
 
 // A recipe of one step.
 fn one(work: Work) -> Recipe {
-    let step = Step {
-        work: work,
-        output: 3,
-    };
+    let step = Step::new(work, 3);
     Recipe {
-        steps: [step; 16],
+        steps: [step; STEP_LIMIT],
         count: 1,
     }
 }

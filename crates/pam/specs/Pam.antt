@@ -1,4 +1,4 @@
--- A PAM picture: what its header's lines say, and whether it is taken. Definitions only.
+-- A PAM picture: what its header's lines say, and whether it is taken.
 use Prim.Native.Nat.{ℕ, _+_, _*_}
 use mathlib.Core.Bool.{true, false, cond}
 use mathlib.Core.List.{List, [], _∷_}

@@ -1,4 +1,4 @@
--- Bytes as text: words, decimal numbers and lines. Definitions only.
+-- Bytes as text: words, decimal numbers and lines.
 use Prim.Native.Nat.{ℕ, zero, suc, _+_, _*_, _-_, min}
 use mathlib.Core.Bool.{Bool, true, false, cond}
 use mathlib.Core.List.{List, [], _∷_}

@@ -1,4 +1,4 @@
--- How a picture's header is written. Definitions only.
+-- How a picture's header is written.
 use Prim.Native.Nat.{ℕ, zero, suc, _+_, _/_, _%_}
 use mathlib.Core.Path.{_≡_}
 use mathlib.Core.Bool.{cond}

@@ -44,7 +44,7 @@ fn matrix(list: &[u8], case: Case, src: &mut [u8]) -> Called {
         count,
         ColorMatrix::Matrix(Numbers {
             start: 1,
-            length: count - 1,
+            count: (count - 1) as u32,
         }),
         numbers,
         src,

@@ -8,7 +8,7 @@ use pool::Numbers;
 ghost use Prim.Native.Nat.{_+_, _≤_};
 
 // No fewer than the numbers of a channel in the list.
-const MOST: usize = 512;
+const MOST: u32 = 512;
 
 // A channel's function, whose numbers stand among the parameters, and where the next channel's parameters begin.
 struct Channel {
@@ -18,11 +18,10 @@ struct Channel {
 }
 
 // A count of numbers; one that is larger cannot be right, and the parameters then are not as many as it says.
-fn count_of(word: u32) -> usize
+fn count_of(word: u32) -> u32
     ensures { λ r. ⌜ r ≤ 512 ⌝ }
 {
-    let count = word as usize;
-    if count < MOST { count } else { MOST }
+    if word < MOST { word } else { MOST }
 }
 
 // The channel whose parameters begin with parameter i.
@@ -30,21 +29,21 @@ fn channel_at(list: &[u8], case: Case, i: usize) -> Channel
     requires { ⌜ i ≤ 1542 ⌝ }
     ensures { λ r. ⌜ r .next ≤ i + 514 ⌝ }
 {
-    let length = count_of(cases::parameter(list, case, i + 1));
+    let count = count_of(cases::parameter(list, case, i + 1));
     Channel {
         kind: cases::parameter(list, case, i),
         numbers: Numbers {
-            start: i + 2,
-            length: length,
+            start: (i + 2) as u32,
+            count: count,
         },
-        next: i + 2 + length,
+        next: i + 2 + (count as usize),
     }
 }
 
 // Whether an enum's value says the function: its kind names a case, and a Linear has two numbers.
 fn is_named(channel: Channel) -> bool {
     if channel.kind == 3 {
-        return channel.numbers.length == 2;
+        return channel.numbers.count == 2;
     }
     channel.kind < 3
 }
@@ -58,7 +57,7 @@ fn function(list: &[u8], case: Case, channel: Channel) -> TransferFunction {
     } else if kind == 2 {
         TransferFunction::Discrete(numbers)
     } else if kind == 3 {
-        linear(list, case, numbers.start)
+        linear(list, case, numbers.start as usize)
     } else {
         TransferFunction::Identity
     }

@@ -1,10 +1,12 @@
 // Document 01's example of reach, shown by runs: dilate of radius 1 by 0 twice, on one row of five pixels.
 use filter::Kind;
 use filter::Recipe;
+use filter::STEP_LIMIT;
 use filter::Step;
 use filter::Work;
 use libc::STDOUT_FILENO;
 use morphology::MorphologyOperator;
+use sheet::Size;
 ghost use Prim.Native.Nat.{_<_};
 
 // Prints the source bytes that byte 3 of the result, pixel 0's alpha, changes with.
@@ -68,8 +70,10 @@ fn result(source: &[u8], junk: u8) -> u8 {
         dilate_twice(),
         Kind::Premultiplied,
         &[],
-        5,
-        1,
+        Size {
+            width: 5,
+            height: 1,
+        },
         source,
         &mut slot1,
         &mut slot2,
@@ -81,15 +85,9 @@ fn result(source: &[u8], junk: u8) -> u8 {
 
 // The source to slot 1, and slot 1 to slot 2.
 fn dilate_twice() -> Recipe {
-    let first = Step {
-        work: Work::Morphology(0, MorphologyOperator::Dilate, 1.0, 0.0),
-        output: 1,
-    };
-    let second = Step {
-        work: Work::Morphology(1, MorphologyOperator::Dilate, 1.0, 0.0),
-        output: 2,
-    };
-    let mut steps = [second; 16];
+    let first = Step::new(Work::Morphology(0, MorphologyOperator::Dilate, 1.0, 0.0), 1);
+    let second = Step::new(Work::Morphology(1, MorphologyOperator::Dilate, 1.0, 0.0), 2);
+    let mut steps = [second; STEP_LIMIT];
     steps[0] = first;
     Recipe {
         steps: steps,

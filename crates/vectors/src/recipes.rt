@@ -10,10 +10,12 @@ use color_matrix::ColorMatrix;
 use component_transfer::TransferFunction;
 use filter::Kind;
 use filter::Recipe;
+use filter::STEP_LIMIT;
 use filter::Step;
 use filter::Work;
 use morphology::MorphologyOperator;
 use pool::Numbers;
+use sheet::Size;
 ghost use Prim.Native.Nat.{_+_, _<_, _≤_};
 
 // A run: what stands in its words, and where its pool and steps stand.
@@ -87,7 +89,10 @@ pub fn read(list: &[u8], at: usize) -> Run
 
 fn sheets_at(list: &[u8], at: usize) -> Sheets
     requires { ⌜ at < 549755813888 ⌝ }
-    ensures { λ r. ⌜ (at ≤ r .scratch .end) × (r .scratch .end ≤ at + 21474836520) × (r .source .length < 4294967296) × (r .slot1 .length < 4294967296) × (r .slot2 .length < 4294967296) × (r .slot3 .length < 4294967296) × (r .scratch .length < 4294967296) ⌝ }
+    ensures { λ r. ⌜ at ≤ r .scratch .end ⌝ }
+    ensures { λ r. ⌜ r .scratch .end ≤ at + 21474836520 ⌝ }
+    ensures { λ r. ⌜ (r .source .length < 4294967296) × (r .slot1 .length < 4294967296) × (r .slot2 .length < 4294967296) ⌝ }
+    ensures { λ r. ⌜ (r .slot3 .length < 4294967296) × (r .scratch .length < 4294967296) ⌝ }
 {
     let source = cases::span_at(list, at, true);
     let slot1 = cases::span_at(list, source.end, true);
@@ -111,12 +116,11 @@ fn stored(before: Span, after: usize) -> Stored {
     }
 }
 
-// A slot's number; there is none over 255.
-fn slot(list: &[u8], at: usize, i: usize) -> u8
-    requires { ⌜ i < 4096 ⌝ }
-{
-    let n = reader::nth_word(list, at, i);
-    if n < 256 { n as u8 } else { 255 }
+pub fn size(run: Run) -> Size {
+    Size {
+        width: run.width,
+        height: run.height,
+    }
 }
 
 pub fn kind(run: Run) -> Kind {
@@ -127,11 +131,11 @@ pub fn kind(run: Run) -> Kind {
     }
 }
 
-// The recipe of the run; a list has no more than 16 steps for it.
+// The recipe of the run; a list has no more than STEP_LIMIT steps for it.
 pub fn recipe(list: &[u8], run: Run) -> Recipe {
-    let mut steps = [no_step(); 16];
+    let mut steps = [no_step(); STEP_LIMIT];
     let mut i = 0;
-    while i < 16 {
+    while i < STEP_LIMIT {
         steps[i] = step_of(list, run, i);
         i += 1;
     }
@@ -161,8 +165,8 @@ fn step_at(list: &[u8], at: usize, i: usize) -> Step
     requires { ⌜ i < 1024 ⌝ }
 {
     let code = reader::nth_word(list, at, i);
-    let output = slot(list, at, i + 1);
-    let input = slot(list, at, i + 2);
+    let output = reader::nth_word(list, at, i + 1);
+    let input = reader::nth_word(list, at, i + 2);
     if code == 1 {
         morphology_at(list, at, i + 4, input, output)
     } else if code == 2 {
@@ -176,7 +180,7 @@ fn step_at(list: &[u8], at: usize, i: usize) -> Step
     }
 }
 
-fn morphology_at(list: &[u8], at: usize, i: usize, input: u8, output: u8) -> Step
+fn morphology_at(list: &[u8], at: usize, i: usize, input: u32, output: u32) -> Step
     requires { ⌜ i < 2048 ⌝ }
 {
     let operator = reader::nth_word(list, at, i);
@@ -184,22 +188,16 @@ fn morphology_at(list: &[u8], at: usize, i: usize, input: u8, output: u8) -> Ste
     let ry = reader::nth_float(list, at, i + 2);
     if operator == 0 {
         let work = Work::Morphology(input, MorphologyOperator::Dilate, rx, ry);
-        Step {
-            work: work,
-            output: output,
-        }
+        Step::new(work, output)
     } else if operator == 1 {
         let work = Work::Morphology(input, MorphologyOperator::Erode, rx, ry);
-        Step {
-            work: work,
-            output: output,
-        }
+        Step::new(work, output)
     } else {
         no_step()
     }
 }
 
-fn color_matrix_at(list: &[u8], at: usize, i: usize, input: u8, output: u8) -> Step
+fn color_matrix_at(list: &[u8], at: usize, i: usize, input: u32, output: u32) -> Step
     requires { ⌜ i < 2048 ⌝ }
 {
     let kind = reader::nth_word(list, at, i);
@@ -226,40 +224,31 @@ fn color_matrix_at(list: &[u8], at: usize, i: usize, input: u8, output: u8) -> S
     }
 }
 
-fn matrix_step(input: u8, matrix: ColorMatrix, output: u8) -> Step {
-    Step {
-        work: Work::ColorMatrix(input, matrix),
-        output: output,
-    }
+fn matrix_step(input: u32, matrix: ColorMatrix, output: u32) -> Step {
+    Step::new(Work::ColorMatrix(input, matrix), output)
 }
 
 // The second input stands before the four numbers.
-fn arithmetic_at(list: &[u8], at: usize, i: usize, input: u8, output: u8) -> Step
+fn arithmetic_at(list: &[u8], at: usize, i: usize, input: u32, output: u32) -> Step
     requires { ⌜ i < 2048 ⌝ }
 {
-    let second = slot(list, at, i);
+    let second = reader::nth_word(list, at, i);
     let k1 = reader::nth_float(list, at, i + 1);
     let k2 = reader::nth_float(list, at, i + 2);
     let k3 = reader::nth_float(list, at, i + 3);
     let k4 = reader::nth_float(list, at, i + 4);
-    Step {
-        work: Work::Arithmetic(input, second, k1, k2, k3, k4),
-        output: output,
-    }
+    Step::new(Work::Arithmetic(input, second, k1, k2, k3, k4), output)
 }
 
 // A kind and two words for each of red, green, blue and alpha.
-fn component_transfer_at(list: &[u8], at: usize, i: usize, input: u8, output: u8) -> Step
+fn component_transfer_at(list: &[u8], at: usize, i: usize, input: u32, output: u32) -> Step
     requires { ⌜ i < 2048 ⌝ }
 {
     let r = transfer_function_at(list, at, i);
     let g = transfer_function_at(list, at, i + 3);
     let b = transfer_function_at(list, at, i + 6);
     let a = transfer_function_at(list, at, i + 9);
-    Step {
-        work: Work::ComponentTransfer(input, r, g, b, a),
-        output: output,
-    }
+    Step::new(Work::ComponentTransfer(input, r, g, b, a), output)
 }
 
 // What names no kind is taken as Identity.
@@ -285,7 +274,7 @@ fn numbers_at(list: &[u8], at: usize, i: usize) -> Numbers
     requires { ⌜ i < 4095 ⌝ }
 {
     Numbers {
-        start: reader::nth_word(list, at, i) as usize,
-        length: reader::nth_word(list, at, i + 1) as usize,
+        start: reader::nth_word(list, at, i),
+        count: reader::nth_word(list, at, i + 1),
     }
 }

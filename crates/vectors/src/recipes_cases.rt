@@ -178,8 +178,7 @@ fn does(
         recipe,
         recipes::kind(run),
         pool,
-        run.width,
-        run.height,
+        recipes::size(run),
         source,
         slot1,
         slot2,
@@ -202,19 +201,22 @@ fn is_reach(
     slot3: &[u8],
     scratch: &[u8],
 ) -> bool {
-    let reaches = filter::reaches(
+    let told = filter::reaches(
         recipe,
         recipes::kind(run),
         pool,
-        run.width,
-        run.height,
+        recipes::size(run),
         source,
         slot1,
         slot2,
         slot3,
         scratch,
     );
-    if reaches {
+    let answer = told.answer;
+    if !is_answer(run, answer) {
+        return false;
+    }
+    if told.yes {
         return run.reaches == 1;
     }
     run.reaches == 0

@@ -57,10 +57,14 @@ returns-5 : tie.Need-returns-5
 returns-5 c = fit-short _ _ _ _ _ (c .before .before .before .before .if1 .left) (c .before .before .before .if2 .left) (c .before .before .if3 .left) (omega arith)
 
 returns-6 : tie.Need-returns-6
-returns-6 c = fit-long _ _ _ _ _ (c .before .before .before .before .before .if1 .left) (c .before .before .before .before .if2 .left) (c .before .before .before .if3 .left) (omega arith)
+returns-6 c =
+    let the-if1 = c .before .before .before .before .before .if1 in
+    fit-long _ _ _ _ _ (the-if1 .left) (c .before .before .before .before .if2 .left) (c .before .before .before .if3 .left) (omega arith)
 
 returns-7 : tie.Need-returns-7
-returns-7 c = fit-exact _ _ _ _ _ (c .before .before .before .before .before .if1 .left) (c .before .before .before .before .if2 .left) (c .before .before .before .if3 .left) (omega arith) (omega arith)
+returns-7 c =
+    let the-if1 = c .before .before .before .before .before .if1 in
+    fit-exact _ _ _ _ _ (the-if1 .left) (c .before .before .before .before .if2 .left) (c .before .before .before .if3 .left) (omega arith) (omega arith)
 
 pub fit-spec : {M : Type 1} → statement M
 fit-spec =

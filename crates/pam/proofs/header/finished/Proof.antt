@@ -14,19 +14,32 @@ returns-2 c = rw (not-false (c .before .before .before .before .args .said .dept
 
 returns-3 : tie.Need-returns-3
 unfolding finished
-returns-3 c = rw (not-false (c .before .before .before .before .before .before .args .said .depth) (c .before .before .before .before .if1 .left), not-false (c .before .before .before .before .before .before .args .said .maxval) (c .before .before .if2 .left), not-true (c .before .before .before .before .before .before .args .said .tupltype) (c .if3 .taken))
+returns-3 c =
+    let args = c .before .before .before .before .before .before .args in
+    rw (not-false (args .said .depth) (c .before .before .before .before .if1 .left), not-false (args .said .maxval) (c .before .before .if2 .left), not-true (args .said .tupltype) (c .if3 .taken))
 
 returns-4 : tie.Need-returns-4
 unfolding finished
-returns-4 c = rw (not-false (c .before .before .before .before .before .before .before .before .args .said .depth) (c .before .before .before .before .before .before .if1 .left), not-false (c .before .before .before .before .before .before .before .before .args .said .maxval) (c .before .before .before .before .if2 .left), not-false (c .before .before .before .before .before .before .before .before .args .said .tupltype) (c .before .before .if3 .left), eq-eqb _ _ (c .if4 .taken))
+returns-4 c =
+    let args = c .before .before .before .before .before .before .before .before .args in
+    let the-if1 = c .before .before .before .before .before .before .if1 in
+    rw (not-false (args .said .depth) (the-if1 .left), not-false (args .said .maxval) (c .before .before .before .before .if2 .left), not-false (args .said .tupltype) (c .before .before .if3 .left), eq-eqb _ _ (c .if4 .taken))
 
 returns-5 : tie.Need-returns-5
 unfolding finished
-returns-5 c = rw (not-false (c .before .before .before .before .before .before .before .before .before .before .args .said .depth) (c .before .before .before .before .before .before .before .before .if1 .left), not-false (c .before .before .before .before .before .before .before .before .before .before .args .said .maxval) (c .before .before .before .before .before .before .if2 .left), not-false (c .before .before .before .before .before .before .before .before .before .before .args .said .tupltype) (c .before .before .before .before .if3 .left), ne-eqb _ _ (c .before .before .if4 .left), eq-eqb _ _ (c .if5 .taken))
+returns-5 c =
+    let args = c .before .before .before .before .before .before .before .before .before .before .args in
+    let the-if1 = c .before .before .before .before .before .before .before .before .if1 in
+    let the-if2 = c .before .before .before .before .before .before .if2 in
+    rw (not-false (args .said .depth) (the-if1 .left), not-false (args .said .maxval) (the-if2 .left), not-false (args .said .tupltype) (c .before .before .before .before .if3 .left), ne-eqb _ _ (c .before .before .if4 .left), eq-eqb _ _ (c .if5 .taken))
 
 returns-6 : tie.Need-returns-6
 unfolding finished
-returns-6 c = rw (not-false (c .before .before .before .before .before .before .before .before .before .before .args .said .depth) (c .before .before .before .before .before .before .before .before .if1 .left), not-false (c .before .before .before .before .before .before .before .before .before .before .args .said .maxval) (c .before .before .before .before .before .before .if2 .left), not-false (c .before .before .before .before .before .before .before .before .before .before .args .said .tupltype) (c .before .before .before .before .if3 .left), ne-eqb _ _ (c .before .before .if4 .left), ne-eqb _ _ (c .if5 .left))
+returns-6 c =
+    let args = c .before .before .before .before .before .before .before .before .before .before .args in
+    let the-if1 = c .before .before .before .before .before .before .before .before .if1 in
+    let the-if2 = c .before .before .before .before .before .before .if2 in
+    rw (not-false (args .said .depth) (the-if1 .left), not-false (args .said .maxval) (the-if2 .left), not-false (args .said .tupltype) (c .before .before .before .before .if3 .left), ne-eqb _ _ (c .before .before .if4 .left), ne-eqb _ _ (c .if5 .left))
 
 pub finished-spec : {M : Type 1} → statement M
 finished-spec = tie.close (tie.spec returns returns-2 returns-3 returns-4 returns-5 returns-6)

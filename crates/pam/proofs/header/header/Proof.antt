@@ -60,7 +60,11 @@ enum-known-picture : tie.Need-enum-known-picture Inv-loop μ-loop
 enum-known-picture c = search needs
 
 returns-3 : tie.Need-returns-3 Inv-loop μ-loop
-returns-3 c = sym (header-stops _ _ _ _ (c .before .before .before .before .before .before .before .line-end .ensures) (c .before .before .before .before .before .before .if2 .left) (c .before .before .before .before .line-of .ensures) (c .before .before .before .after .ensures) (c .before .picture .given .1)) ∙ c .before .before .before .before .before .before .before .before .before .loop .inv
+returns-3 c =
+    let loop = c .before .before .before .before .before .before .before .before .before .loop in
+    let the-line-end = c .before .before .before .before .before .before .before .line-end in
+    let the-if2 = c .before .before .before .before .before .before .if2 in
+    sym (header-stops _ _ _ _ (the-line-end .ensures) (the-if2 .left) (c .before .before .before .before .line-of .ensures) (c .before .before .before .after .ensures) (c .before .picture .given .1)) ∙ loop .inv
 
 enum-known-more : tie.Need-enum-known-more Inv-loop μ-loop
 enum-known-more c = search needs
@@ -69,7 +73,11 @@ loop-less : tie.Need-loop-less Inv-loop μ-loop
 loop-less c = search needs
 
 loop-again : tie.Need-loop-again Inv-loop μ-loop
-loop-again c = sym (header-goes _ _ _ _ (c .before .before .before .before .before .before .before .line-end .ensures) (c .before .before .before .before .before .before .if2 .left) (c .before .before .before .before .line-of .ensures) (c .before .before .before .after .ensures) (c .before .more .given .1)) ∙ c .before .before .before .before .before .before .before .before .before .loop .inv
+loop-again c =
+    let loop = c .before .before .before .before .before .before .before .before .before .loop in
+    let the-line-end = c .before .before .before .before .before .before .before .line-end in
+    let the-if2 = c .before .before .before .before .before .before .if2 in
+    sym (header-goes _ _ _ _ (the-line-end .ensures) (the-if2 .left) (c .before .before .before .before .line-of .ensures) (c .before .before .before .after .ensures) (c .before .more .given .1)) ∙ loop .inv
 
 returns-4 : tie.Need-returns-4 Inv-loop μ-loop
 returns-4 c = sym (header-ends _ _ _ (c .loop-test .left)) ∙ c .before .loop .inv

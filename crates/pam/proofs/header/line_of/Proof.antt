@@ -43,7 +43,12 @@ number-requires c κs = search needs
 
 returns-3 : tie.Need-returns-3
 unfolding lineOf
-returns-3 c = rw (ne-eqb _ _ (c .before .before .before .before .before .before .before .before .if1 .left), told (c .before .before .before .before .before .before .begins .ensures) (c .before .before .before .before .before .if2 .left), told (c .before .before .before .begins2 .ensures) (c .before .before .if3 .taken)) (ap Width (c .number .ensures ∙ ap numberOf (rest 6 (c .before .before .before .before .before .before .before .before .before .before .args .line .now))))
+returns-3 c =
+    let args = c .before .before .before .before .before .before .before .before .before .before .args in
+    let the-if1 = c .before .before .before .before .before .before .before .before .if1 in
+    let the-begins = c .before .before .before .before .before .before .begins in
+    let the-if2 = c .before .before .before .before .before .if2 in
+    rw (ne-eqb _ _ (the-if1 .left), told (the-begins .ensures) (the-if2 .left), told (c .before .before .before .begins2 .ensures) (c .before .before .if3 .taken)) (ap Width (c .number .ensures ∙ ap numberOf (rest 6 (args .line .now))))
 
 slice-aggregate-begins-3 : tie.Need-slice-aggregate-begins-3
 slice-aggregate-begins-3 c = search needs
@@ -65,7 +70,14 @@ number-requires-2 c κs = search needs
 
 returns-4 : tie.Need-returns-4
 unfolding lineOf
-returns-4 c = rw (ne-eqb _ _ (c .before .before .before .before .before .before .before .before .before .before .before .if1 .left), told (c .before .before .before .before .before .before .before .before .before .begins .ensures) (c .before .before .before .before .before .before .before .before .if2 .left), told (c .before .before .before .before .before .before .begins2 .ensures) (c .before .before .before .before .before .if3 .left), told (c .before .before .before .begins3 .ensures) (c .before .before .if4 .taken)) (ap Height (c .number2 .ensures ∙ ap numberOf (rest 7 (c .before .before .before .before .before .before .before .before .before .before .before .before .before .args .line .now))))
+returns-4 c =
+    let args = c .before .before .before .before .before .before .before .before .before .before .before .before .before .args in
+    let the-if1 = c .before .before .before .before .before .before .before .before .before .before .before .if1 in
+    let the-begins = c .before .before .before .before .before .before .before .before .before .begins in
+    let the-if2 = c .before .before .before .before .before .before .before .before .if2 in
+    let the-begins2 = c .before .before .before .before .before .before .begins2 in
+    let the-if3 = c .before .before .before .before .before .if3 in
+    rw (ne-eqb _ _ (the-if1 .left), told (the-begins .ensures) (the-if2 .left), told (the-begins2 .ensures) (the-if3 .left), told (c .before .before .before .begins3 .ensures) (c .before .before .if4 .taken)) (ap Height (c .number2 .ensures ∙ ap numberOf (rest 7 (args .line .now))))
 
 slice-aggregate-is-word : tie.Need-slice-aggregate-is-word
 slice-aggregate-is-word c = search needs
@@ -75,14 +87,27 @@ is-word-requires c κs = search needs
 
 returns-5 : tie.Need-returns-5
 unfolding lineOf
-returns-5 c = rw (ne-eqb _ _ (c .before .before .before .before .before .before .before .before .before .before .before .before .if1 .left), told (c .before .before .before .before .before .before .before .before .before .before .begins .ensures) (c .before .before .before .before .before .before .before .before .before .if2 .left), told (c .before .before .before .before .before .before .before .begins2 .ensures) (c .before .before .before .before .before .before .if3 .left), told (c .before .before .before .before .begins3 .ensures) (c .before .before .before .if4 .left), told (c .before .is-word .ensures) (c .if5 .taken))
+returns-5 c =
+    let the-if1 = c .before .before .before .before .before .before .before .before .before .before .before .before .if1 in
+    let the-begins = c .before .before .before .before .before .before .before .before .before .before .begins in
+    let the-if2 = c .before .before .before .before .before .before .before .before .before .if2 in
+    let the-begins2 = c .before .before .before .before .before .before .before .begins2 in
+    let the-if3 = c .before .before .before .before .before .before .if3 in
+    rw (ne-eqb _ _ (the-if1 .left), told (the-begins .ensures) (the-if2 .left), told (the-begins2 .ensures) (the-if3 .left), told (c .before .before .before .before .begins3 .ensures) (c .before .before .before .if4 .left), told (c .before .is-word .ensures) (c .if5 .taken))
 
 kind-line-requires : tie.Need-kind-line-requires
 kind-line-requires c κs = search needs
 
 returns-6 : tie.Need-returns-6
 unfolding lineOf
-returns-6 c = rw (ne-eqb _ _ (c .before .before .before .before .before .before .before .before .before .before .before .before .before .if1 .left), told (c .before .before .before .before .before .before .before .before .before .before .before .begins .ensures) (c .before .before .before .before .before .before .before .before .before .before .if2 .left), told (c .before .before .before .before .before .before .before .before .begins2 .ensures) (c .before .before .before .before .before .before .before .if3 .left), told (c .before .before .before .before .before .begins3 .ensures) (c .before .before .before .before .if4 .left), told (c .before .before .is-word .ensures) (c .before .if5 .left)) (c .kind-line .ensures)
+returns-6 c =
+    let the-if1 = c .before .before .before .before .before .before .before .before .before .before .before .before .before .if1 in
+    let the-begins = c .before .before .before .before .before .before .before .before .before .before .before .begins in
+    let the-if2 = c .before .before .before .before .before .before .before .before .before .before .if2 in
+    let the-begins2 = c .before .before .before .before .before .before .before .before .begins2 in
+    let the-if3 = c .before .before .before .before .before .before .before .if3 in
+    let the-begins3 = c .before .before .before .before .before .begins3 in
+    rw (ne-eqb _ _ (the-if1 .left), told (the-begins .ensures) (the-if2 .left), told (the-begins2 .ensures) (the-if3 .left), told (the-begins3 .ensures) (c .before .before .before .before .if4 .left), told (c .before .before .is-word .ensures) (c .before .if5 .left)) (c .kind-line .ensures)
 
 pub line-of-spec : {M : Type 1} → statement M
 line-of-spec =

@@ -37,7 +37,9 @@ loop-less : tie.Need-loop-less Inv-loop μ-loop
 loop-less c = search needs
 
 loop-again : tie.Need-loop-again Inv-loop μ-loop
-loop-again c = (search needs, (search needs, rw (c .with-digit .ensures .0) (digits-next _ _ _ (c .before .before .before .before .loop-test .taken) (allowed (c .before .before .is-digit .ensures) (c .before .if1 .left))) ∙ c .before .before .before .before .before .loop .inv .1 .1))
+loop-again c =
+    let loop = c .before .before .before .before .before .loop in
+    (search needs, (search needs, rw (c .with-digit .ensures .0) (digits-next _ _ _ (c .before .before .before .before .loop-test .taken) (allowed (c .before .before .is-digit .ensures) (c .before .if1 .left))) ∙ loop .inv .1 .1))
 
 returns-2 : tie.Need-returns-2 Inv-loop μ-loop
 returns-2 c = sym (digits-done _ _ _ (c .loop-test .left)) ∙ c .before .loop .inv .1 .1

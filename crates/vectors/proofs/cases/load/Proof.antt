@@ -3,7 +3,7 @@ use borrow.Author.Needs.{needs}
 use mathlib.Core.Path.{sym}
 use mathlib.Core.Bool.{true≢false}
 use native.Mathlib.Omega.{arith}
-use lib.ListN.{length-take, length-drop}
+use lib.ListN.{length-take}
 use borrow.Author.Tests.{not-false}
 use Rattle.vectors.proofs.cases.load.Statement.{statement}
 use Rattle.vectors.proofs.cases.load.Tie as tie
@@ -36,7 +36,7 @@ slice-aggregate-copy : tie.Need-slice-aggregate-copy
 slice-aggregate-copy c = simp length-take (omega arith)
 
 copy-requires : tie.Need-copy-requires
-copy-requires c κs = let h = c .before .before .before .before .holds .ensures (not-false _ (c .before .before .before .if1 .left)) in simp (length-take, length-drop) (omega arith)
+copy-requires c κs = search needs
 
 same-length : tie.Need-same-length
 same-length c = search needs

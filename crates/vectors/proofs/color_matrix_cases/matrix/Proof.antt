@@ -23,6 +23,9 @@ floats-requires c κs = simp length-take (omega arith)
 sub-t12 : tie.Need-sub-t12
 sub-t12 c = search needs
 
+cast-t13 : tie.Need-cast-t13
+cast-t13 c = search needs
+
 apply-requires : tie.Need-apply-requires
 apply-requires c κs = search needs
 
@@ -42,6 +45,7 @@ matrix-spec =
     slice-aggregate-numbers
     floats-requires
     sub-t12
+    cast-t13
     apply-requires
     same-length
     returns-3)

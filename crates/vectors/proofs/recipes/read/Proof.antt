@@ -128,7 +128,9 @@ stored-requires-5 : tie.Need-stored-requires-5
 stored-requires-5 c κs = search needs
 
 returns : tie.Need-returns
-returns c = let h = c .before .before .before .before .before .before .before .before .before .before .before .before .before .before .before .before .before .sheets-at .ensures in omega arith
+returns c =
+    let the-sheets-at = c .before .before .before .before .before .before .before .before .before .before .before .before .before .before .before .before .before .sheets-at in
+    let h = the-sheets-at .ensures in omega arith
 
 pub read-spec : {M : Type 1} → statement M
 read-spec =

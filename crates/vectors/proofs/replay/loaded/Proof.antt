@@ -50,22 +50,38 @@ returns-3 : tie.Need-returns-3
 returns-3 c = search needs
 
 slice-relend-prefix-counted : tie.Need-slice-relend-prefix-counted
-slice-relend-prefix-counted c = c .before .before .before .before .before .before .before .before .before .before .before .before .before .load .ensures (not-false _ (c .before .before .before .before .before .before .before .before .before .before .if1 .left)) .0
+slice-relend-prefix-counted c =
+    let the-load = c .before .before .before .before .before .before .before .before .before .before .before .before .before .load in
+    let the-if1 = c .before .before .before .before .before .before .before .before .before .before .if1 in
+    the-load .ensures (not-false _ (the-if1 .left)) .0
 
 slice-aggregate-counted : tie.Need-slice-aggregate-counted
-slice-aggregate-counted c = c .before .before .before .before .before .before .before .before .before .before .before .before .before .before .load .ensures (not-false _ (c .before .before .before .before .before .before .before .before .before .before .before .if1 .left)) .1
+slice-aggregate-counted c =
+    let the-load = c .before .before .before .before .before .before .before .before .before .before .before .before .before .before .load in
+    let the-if1 = c .before .before .before .before .before .before .before .before .before .before .before .if1 in
+    the-load .ensures (not-false _ (the-if1 .left)) .1
 
 slice-relend-prefix-counted-2 : tie.Need-slice-relend-prefix-counted-2
-slice-relend-prefix-counted-2 c = c .before .before .before .before .before .before .before .before .before .load2 .ensures (not-false _ (c .before .before .before .before .before .before .if2 .left)) .0
+slice-relend-prefix-counted-2 c =
+    let the-load2 = c .before .before .before .before .before .before .before .before .before .load2 in
+    let the-if2 = c .before .before .before .before .before .before .if2 in
+    the-load2 .ensures (not-false _ (the-if2 .left)) .0
 
 slice-aggregate-counted-2 : tie.Need-slice-aggregate-counted-2
-slice-aggregate-counted-2 c = c .before .before .before .before .before .before .before .before .before .before .load2 .ensures (not-false _ (c .before .before .before .before .before .before .before .if2 .left)) .1
+slice-aggregate-counted-2 c =
+    let the-load2 = c .before .before .before .before .before .before .before .before .before .before .load2 in
+    let the-if2 = c .before .before .before .before .before .before .before .if2 in
+    the-load2 .ensures (not-false _ (the-if2 .left)) .1
 
 slice-relend-prefix-counted-3 : tie.Need-slice-relend-prefix-counted-3
-slice-relend-prefix-counted-3 c = c .before .before .before .before .before .load3 .ensures (not-false _ (c .before .before .if3 .left)) .0
+slice-relend-prefix-counted-3 c =
+    let the-load3 = c .before .before .before .before .before .load3 in
+    the-load3 .ensures (not-false _ (c .before .before .if3 .left)) .0
 
 slice-aggregate-counted-3 : tie.Need-slice-aggregate-counted-3
-slice-aggregate-counted-3 c = c .before .before .before .before .before .before .load3 .ensures (not-false _ (c .before .before .before .if3 .left)) .1
+slice-aggregate-counted-3 c =
+    let the-load3 = c .before .before .before .before .before .before .load3 in
+    the-load3 .ensures (not-false _ (c .before .before .before .if3 .left)) .1
 
 counted-requires-4 : tie.Need-counted-requires-4
 counted-requires-4 c κs = search needs
