@@ -13,8 +13,9 @@
  *   0  done
  *   1  width or height outside 1..2048
  *   2  a sheet or scratch is not exactly 4 * width * height bytes
- *   3  a matrix is not of 20 numbers, a table is over 256 entries, or a linear
- *      function is not of 2 numbers
+ *   3  a matrix is not of 20 numbers, a table is over 256 entries, a linear
+ *      function is not of 2 numbers, or a kernel is not of rows * columns
+ *      numbers, has a side outside 1..15 or its target outside it
  *   4  a parameter is NaN or infinite
  *   5  a finite parameter is outside its range, or a number names no case
  *
@@ -94,6 +95,86 @@ nup_answer nup_arithmetic(uint32_t width, uint32_t height, float k1, float k2,
                           const uint8_t *src1, size_t src1_len,
                           const uint8_t *src2, size_t src2_len,
                           uint8_t *dest, size_t dest_len);
+
+/* edge */
+enum { NUP_EDGE_NONE = 0, NUP_EDGE_DUPLICATE = 1, NUP_EDGE_WRAP = 2 };
+
+/* The sum over each pixel's window, of rows and columns round the target, by
+   the kernel turned by half a turn; divided by divisor, and bias added, times
+   the new alpha for colours. What lies beyond the edges is skipped, the
+   nearest pixel, or that of the opposite edge. Premultiplied colour, in place;
+   where preserve_alpha is 1, not 0, src is straight, keeps its alpha, and
+   becomes premultiplied. Results are rounded by adding a half. scratch is as
+   long as src, and all zero afterwards. Refused: 1, 2, 3, 4, 5 (kernel and
+   bias -65,536 to 65,536; divisor the same, in size at least 1/65,536). */
+nup_answer nup_convolve_matrix(uint32_t width, uint32_t height,
+                               uint32_t columns, uint32_t rows,
+                               uint32_t target_x, uint32_t target_y,
+                               const float *kernel, size_t kernel_len,
+                               float divisor, float bias, uint8_t edge,
+                               uint8_t preserve_alpha,
+                               uint8_t *src, size_t src_len,
+                               uint8_t *scratch, size_t scratch_len);
+
+/* x_channel, y_channel */
+enum { NUP_CHANNEL_R = 0, NUP_CHANNEL_G = 1, NUP_CHANNEL_B = 2,
+       NUP_CHANNEL_A = 3 };
+
+/* Each pixel of dest is the one of src at its column plus
+   (x_channel / 255 - 0.5) * sx * scale, rounded half away from zero, and its
+   row likewise, by the channels of the map's pixel there; off the sheet all
+   four channels are 0. The map has straight colour, dest src's.
+   Refused: 1, 2, 4, 5 (sx and sy -16 to 16, scale -4,096 to 4,096, another
+   channel). */
+nup_answer nup_displacement_map(uint32_t width, uint32_t height,
+                                uint8_t x_channel, uint8_t y_channel,
+                                float sx, float sy, float scale,
+                                const uint8_t *src, size_t src_len,
+                                const uint8_t *map, size_t map_len,
+                                uint8_t *dest, size_t dest_len);
+
+/* kind of nup_turbulence */
+enum { NUP_TURBULENCE = 0, NUP_FRACTAL_NOISE = 1 };
+
+/* The sum of num_octaves octaves of noise, as straight colour; every byte of
+   dest is written, and no sheet is read. The offsets are the filter region's,
+   sx and sy the canvas scale. Any seed draws. stitch_tiles is 0.
+   Refused: 1, 2, 4, 5 (offsets -4,096 to 4,096, scales 1/16 to 16, frequencies
+   0 to 16, octaves over 8, another stitch_tiles or kind). */
+nup_answer nup_turbulence(uint32_t width, uint32_t height, double offset_x,
+                          double offset_y, double sx, double sy,
+                          double base_frequency_x, double base_frequency_y,
+                          uint32_t num_octaves, int32_t seed,
+                          uint8_t stitch_tiles, uint8_t kind,
+                          uint8_t *dest, size_t dest_len);
+
+/* light */
+enum { NUP_DISTANT = 0, NUP_POINT = 1 };
+
+/* src's alpha as a surface, lit by a light of this colour: NUP_DISTANT shines
+   from the direction x, y, z, NUP_POINT from that place. Below 3 x 3 dest is
+   only cleared. src of either kind, dest straight and opaque.
+   Refused: 1, 2, 4, 5 (a direction whose exact sum of squares is further than
+   1/1,024 from 1, a place beyond -65,536 to 65,536, surface_scale beyond -256
+   to 256, diffuse_constant beyond 0 to 256, another light, whose x, y and z
+   are then not read). */
+nup_answer nup_diffuse_lighting(uint32_t width, uint32_t height, uint8_t light,
+                                float x, float y, float z,
+                                float surface_scale, float diffuse_constant,
+                                uint8_t red, uint8_t green, uint8_t blue,
+                                const uint8_t *src, size_t src_len,
+                                uint8_t *dest, size_t dest_len);
+
+/* As nup_diffuse_lighting, for light that is thrown back as by a mirror; dest
+   is premultiplied, and its alpha is the largest of its colours. Refused also:
+   5 where specular_exponent is not 1. */
+nup_answer nup_specular_lighting(uint32_t width, uint32_t height,
+                                 uint8_t light, float x, float y, float z,
+                                 float surface_scale, float specular_constant,
+                                 float specular_exponent,
+                                 uint8_t red, uint8_t green, uint8_t blue,
+                                 const uint8_t *src, size_t src_len,
+                                 uint8_t *dest, size_t dest_len);
 
 /* Each of xs as a byte: toward zero, 0 for a NaN and below 0, 255 above it.
    Refused: 2 where the two lengths differ. */

@@ -17,7 +17,7 @@ const SPENT: Duration = Duration::from_millis(600);
 const NOTE: &str = "\
 Least time of several runs in one process, ns for each element (floats) or pixel (the rest), release
 builds. Inputs are restored before each run, outside the time. The Rust's morphology allocates its
-back buffer inside, ours is lent scratch and clears it; both composites clear their destination.
+back buffer inside, ours is lent scratch and clears it; a destination is cleared first on both sides.
 The library's own tests of its arguments are inside.
 ";
 
@@ -69,17 +69,21 @@ fn floats() {
     let spread: Vec<f32> = (0..FLOATS).map(|_| 500.0 * rng.unit() - 100.0).collect();
     let patterns: Vec<f32> = (0..FLOATS).map(|_| f32::from_bits(rng.bits())).collect();
     for (input, xs) in [("-100..400", &spread), ("any pattern", &patterns)] {
-        float_row("to_byte", input, xs, direct(ours::nup_to_bytes), |x| {
-            x as u8
-        });
-        let call = direct(ours::nup_round_to_i32s);
+        float_row(
+            "to_byte",
+            input,
+            xs,
+            direct(ours::nup_to_bytes as Leaf<u8>),
+            |x| x as u8,
+        );
+        let call = direct(ours::nup_round_to_i32s as Leaf<i32>);
         float_row("round_to_i32", input, xs, call, |x| x.round() as i32);
     }
 }
 
 /// A function of the library, where its time means something.
-fn direct<T>(call: Option<T>) -> Option<T> {
-    call.filter(|_| ours::DIRECT)
+fn direct<T>(call: T) -> Option<T> {
+    ours::DIRECT.then_some(call)
 }
 
 type Leaf<T> = unsafe extern "C" fn(*const f32, usize, *mut T, usize) -> crate::case::Answer;
@@ -165,7 +169,16 @@ fn card(side: u32) -> Vec<u8> {
 }
 
 fn primitives(input: &str, sheet: &[u8], slow: bool) {
-    let [morphology, color_matrix, composite, component_transfer] = &ALL;
+    let [
+        morphology,
+        color_matrix,
+        composite,
+        component_transfer,
+        convolve_matrix,
+        displacement_map,
+        diffuse,
+        specular,
+    ] = &ALL;
     for (what, params) in color_matrices() {
         primitive_row(color_matrix, what, input, params, sheet, 1);
     }
@@ -173,6 +186,23 @@ fn primitives(input: &str, sheet: &[u8], slow: bool) {
     primitive_row(composite, "arithmetic", input, k, sheet, 3);
     for (what, params) in transfers() {
         primitive_row(component_transfer, what, input, params, sheet, 1);
+    }
+    for scale in [0.0, 20.0, 4096.0] {
+        let what = format!("displacement {scale}");
+        let mut params = vec![Param::Choice(0), Param::Choice(1)];
+        params.extend([1.0, 1.0, scale].map(Param::float));
+        primitive_row(displacement_map, &what, input, params, sheet, 3);
+    }
+    for (light, place) in [
+        ("distant", [0.48, 0.6, 0.64]),
+        ("point", [300.0, 200.0, 90.0]),
+    ] {
+        let params = lighting((light == "point") as u32, place);
+        let what = format!("diffuse lighting, {light}");
+        primitive_row(diffuse, &what, input, params.clone(), sheet, 2);
+        let what = format!("specular lighting, {light}");
+        let params = [params, vec![Param::float(1.0)]].concat();
+        primitive_row(specular, &what, input, params, sheet, 2);
     }
     for radius in [1, 8, 40] {
         for (op, name) in [(0, "dilate"), (1, "erode")] {
@@ -184,6 +214,22 @@ fn primitives(input: &str, sheet: &[u8], slow: bool) {
             }
         }
     }
+    for side in [3, 5, 15] {
+        for (edge, name) in [(0, "None"), (1, "Duplicate"), (2, "Wrap")] {
+            let what = format!("convolve {side} by {side}, {name}");
+            primitive_row(convolve_matrix, &what, input, kernel(side, edge), sheet, 2);
+        }
+    }
+}
+
+/// A kernel of so many columns and rows, its target in the middle.
+fn kernel(side: u32, edge: u32) -> Vec<Param> {
+    let numbers: Vec<f32> = (0..side * side).map(|i| (i % 5) as f32 - 1.0).collect();
+    let choices = [side, side, side / 2, side / 2, edge, 0];
+    let mut params: Vec<Param> = choices.map(Param::Choice).into();
+    params.extend([Param::float(numbers.iter().sum()), Param::float(0.0)]);
+    params.push(Param::Rest(Param::floats(&numbers)));
+    params
 }
 
 fn color_matrices() -> [(&'static str, Vec<Param>); 4] {
@@ -200,6 +246,14 @@ fn color_matrices() -> [(&'static str, Vec<Param>); 4] {
         ),
         ("LuminanceToAlpha", vec![Param::Choice(3)]),
     ]
+}
+
+fn lighting(light: u32, place: [f32; 3]) -> Vec<Param> {
+    let mut params = vec![Param::Choice(light)];
+    params.extend(place.map(Param::float));
+    params.extend([5.0, 1.0].map(Param::float));
+    params.extend([255, 240, 200].map(Param::Choice));
+    params
 }
 
 fn transfers() -> [(&'static str, Vec<Param>); 3] {
@@ -241,9 +295,7 @@ fn primitive_row(
         let mut slices: Vec<&mut [u8]> = state.iter_mut().map(|sheet| &mut sheet[..]).collect();
         (primitive.ours)(&case, &mut slices)
     };
-    // Not every function need be in the library yet.
-    let measured = ours::DIRECT && call(&mut state).is_some();
-    let ours = measured.then(|| {
+    let ours = ours::DIRECT.then(|| {
         least(&mut state, restore, |state| {
             call(state);
         })

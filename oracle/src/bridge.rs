@@ -115,6 +115,20 @@ impl Put for f32 {
     }
 }
 
+impl Put for i32 {
+    fn put(self, message: &mut Message) {
+        message.word(self as u32);
+    }
+}
+
+/// Its lower word, then its upper one.
+impl Put for f64 {
+    fn put(self, message: &mut Message) {
+        message.word(self.to_bits() as u32);
+        message.word((self.to_bits() >> 32) as u32);
+    }
+}
+
 impl<T> Put for *const T {
     fn put(self, message: &mut Message) {
         message.pointer = Some((self.cast_mut().cast(), size_of::<T>(), false));

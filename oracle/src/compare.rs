@@ -4,23 +4,27 @@ use crate::case::{Case, Param};
 use crate::leaves::{self, Leaf};
 use crate::lend::Lent;
 use crate::nasty::Limits;
+use crate::ours;
 use crate::primitives::{ALL, Primitive};
 use crate::rng::Rng;
 use crate::shrink;
+use crate::table::SIDE;
 
-const SEED: u64 = 0x636f_6d70;
+/// The seed of the cases that are the same in every run.
+pub const SEED: u64 = 0x636f_6d70;
 
 /// What `oracle compare` was asked for.
 pub struct Wanted {
     /// One primitive or leaf, or all.
     pub name: Option<String>,
     pub cases: u32,
-    /// A function that the archive lacks is an error, as it is where one name is asked for.
-    pub all: bool,
+    pub seed: u64,
 }
 
 /// Runs what is wanted; the error is what to print before leaving with status 1.
 pub fn run(wanted: &Wanted) -> Result<(), String> {
+    ours::linked()?;
+    println!("seed {:x}, which --seed repeats", wanted.seed);
     let is_wanted = |name: &str| wanted.name.as_deref().is_none_or(|only| only == name);
     let mut found = false;
     for leaf in leaves::ALL.iter().filter(|leaf| is_wanted(leaf.name)) {
@@ -29,26 +33,7 @@ pub fn run(wanted: &Wanted) -> Result<(), String> {
     }
     for primitive in ALL.iter().filter(|primitive| is_wanted(primitive.name)) {
         found = true;
-        let known = (primitive.known)();
-        compare_primitive(primitive, wanted, false, &mut |rng, i| {
-            let side = match i % 500 {
-                499 => primitive.large,
-                _ => [4, 9, 24][i as usize % 3],
-            };
-            let limits = Limits {
-                side,
-                any_nan: true,
-            };
-            let drawn = || (primitive.draw)(rng, limits);
-            known.get(i as usize).cloned().unwrap_or_else(drawn)
-        })?;
-        compare_primitive(primitive, wanted, true, &mut |rng, i| {
-            let limits = Limits {
-                side: [2, 5, 12][i as usize % 3],
-                any_nan: true,
-            };
-            primitive.draw_spoiled(rng, limits)
-        })?;
+        compare_draws(primitive, wanted)?;
     }
     match &wanted.name {
         Some(name) if !found => Err(format!("no primitive or leaf is called {name}")),
@@ -56,20 +41,8 @@ pub fn run(wanted: &Wanted) -> Result<(), String> {
     }
 }
 
-fn missing(name: &str, wanted: &Wanted) -> Result<(), String> {
-    let line = format!("{name}: not in the library, or not all of it");
-    if wanted.all || wanted.name.is_some() {
-        return Err(line);
-    }
-    println!("{line}");
-    Ok(())
-}
-
 fn compare_leaf(leaf: &Leaf, wanted: &Wanted) -> Result<(), String> {
-    if !leaf.linked {
-        return missing(leaf.name, wanted);
-    }
-    let mut rng = Rng::new(SEED);
+    let mut rng = Rng::new(wanted.seed);
     for (title, refused) in [
         (leaf.name.to_string(), false),
         (format!("{} refusals", leaf.name), true),
@@ -86,42 +59,77 @@ fn compare_leaf(leaf: &Leaf, wanted: &Wanted) -> Result<(), String> {
     Ok(())
 }
 
+/// Accepted cases, known ones first; large ones; and refusals.
+fn compare_draws(primitive: &Primitive, wanted: &Wanted) -> Result<(), String> {
+    let limits = |side: u32| Limits {
+        side,
+        any_nan: true,
+    };
+    let known = (primitive.known)();
+    compare_primitive(primitive, wanted, Kind::Accepted, &mut |rng, i| {
+        let side = match i % 500 {
+            499 => primitive.large,
+            _ => [4, 9, 24][i as usize % 3],
+        };
+        let drawn = || primitive.drawn(rng, limits(side));
+        known.get(i as usize).cloned().unwrap_or_else(drawn)
+    })?;
+    compare_primitive(primitive, wanted, Kind::Large, &mut |rng, i| {
+        let (width, height) = large(rng, i);
+        (primitive.draw)(rng, width, height)
+    })?;
+    compare_primitive(primitive, wanted, Kind::Refusals, &mut |rng, i| {
+        primitive.draw_spoiled(rng, limits([2, 5, 12][i as usize % 3]))
+    })
+}
+
+/// Rows and columns as long as is allowed, sides of 600 and more, and once the largest sheet.
+fn large(rng: &mut Rng, i: u32) -> (u32, u32) {
+    let mut side = || 600 + rng.below(400);
+    match (i, i % 3) {
+        (4, _) => (SIDE, SIDE),
+        (_, 0) => (SIDE, 1),
+        (_, 1) => (1, SIDE),
+        _ => (side(), side()),
+    }
+}
+
+#[derive(Clone, Copy)]
+enum Kind {
+    Accepted,
+    Refusals,
+    Large,
+}
+
 fn compare_primitive(
     primitive: &Primitive,
     wanted: &Wanted,
-    refusals: bool,
+    kind: Kind,
     draw: &mut dyn FnMut(&mut Rng, u32) -> Case,
 ) -> Result<(), String> {
-    let title = format!(
-        "{}{}",
-        primitive.name,
-        if refusals { " refusals" } else { "" }
-    );
-    let mut rng = Rng::new(SEED + 2 * primitive.code as u64 + refusals as u64);
-    let (mut done, mut absent, mut answers) = (0, 0, [0; 6]);
-    for i in 0..wanted.cases {
+    // A large case takes as long as a hundred others.
+    let (what, cases) = match kind {
+        Kind::Accepted => ("", wanted.cases),
+        Kind::Refusals => (" refusals", wanted.cases),
+        Kind::Large => (" large", wanted.cases.div_ceil(100)),
+    };
+    let title = format!("{}{what}", primitive.name);
+    let own = 2 * primitive.code as u64 + kind as u64;
+    let mut rng = Rng::new(wanted.seed.wrapping_add(own));
+    let mut answers = [0; 6];
+    for i in 0..cases {
         let case = draw(&mut rng, i);
         match check(primitive, &case) {
-            None => absent += 1,
-            Some(Ok(number)) => {
-                done += 1;
-                answers[number as usize] += 1;
-            }
-            Some(Err(_)) => return Err(shown(primitive, &title, done + 1, case)),
+            Ok(number) => answers[number as usize] += 1,
+            Err(_) => return Err(shown(primitive, &title, i + 1, case)),
         }
     }
-    if absent > 0 && !refusals {
-        missing(&title, wanted)?;
-    }
-    if done > 0 {
-        println!("{title}: {done} cases, 0 differences (answers 0 to 5: {answers:?})");
-    }
+    println!("{title}: {cases} cases, 0 differences (answers 0 to 5: {answers:?})");
     Ok(())
 }
 
-/// Whether the library does what is expected: the answer's number, or what differs. None where the
-/// function is not linked.
-pub fn check(primitive: &Primitive, case: &Case) -> Option<Result<u8, String>> {
+/// Whether the library does what is expected: the answer's number, or what differs.
+pub fn check(primitive: &Primitive, case: &Case) -> Result<u8, String> {
     let mut lent: Vec<Lent<u8>> = case
         .sheets
         .iter()
@@ -129,13 +137,11 @@ pub fn check(primitive: &Primitive, case: &Case) -> Option<Result<u8, String>> {
         .map(|(i, sheet)| Lent::new(sheet, 0xa5, (sheet.len() / 4 + i) % 4))
         .collect();
     let mut slices: Vec<&mut [u8]> = lent.iter_mut().map(Lent::now_mut).collect();
-    let answer = (primitive.ours)(case, &mut slices)?;
+    let answer = (primitive.ours)(case, &mut slices);
     let expected = primitive.expected(case);
     if answer != expected.answer {
         let expected = expected.answer;
-        return Some(Err(format!(
-            "expected {expected}, the library gave {answer}"
-        )));
+        return Err(format!("expected {expected}, the library gave {answer}"));
     }
     for (i, (lent, sheet)) in lent.iter().zip(&expected.sheets).enumerate() {
         if let Some(at) = lent
@@ -145,21 +151,21 @@ pub fn check(primitive: &Primitive, case: &Case) -> Option<Result<u8, String>> {
             .position(|(ours, rust)| ours != rust)
         {
             let (rust, ours) = (sheet[at], lent.now()[at]);
-            return Some(Err(format!(
+            return Err(format!(
                 "sheet {i} byte {at}: expected {rust}, the library left {ours}"
-            )));
+            ));
         }
         if !lent.kept() {
-            return Some(Err(format!("the library wrote outside sheet {i}")));
+            return Err(format!("the library wrote outside sheet {i}"));
         }
     }
-    Some(Ok(answer.number))
+    Ok(answer.number)
 }
 
 fn shown(primitive: &Primitive, title: &str, done: u32, case: Case) -> String {
-    let differs = |case: &Case| matches!(check(primitive, case), Some(Err(_)));
+    let differs = |case: &Case| check(primitive, case).is_err();
     let small = shrink::shrink(case, &differs);
-    let what = check(primitive, &small).unwrap().unwrap_err();
+    let what = check(primitive, &small).unwrap_err();
     format!(
         "{title}: {done} cases, 1 differences\n{what}\n{}",
         describe(&small)

@@ -8,7 +8,6 @@ use crate::rng::Rng;
 
 pub struct Leaf {
     pub name: &'static str,
-    pub linked: bool,
     /// Whether there are two lengths to differ.
     pub refuses: bool,
     /// One case, with lengths that differ or not; the error shows the input.
@@ -18,25 +17,21 @@ pub struct Leaf {
 pub const ALL: [Leaf; 4] = [
     Leaf {
         name: "to_bytes",
-        linked: ours::nup_to_bytes.is_some(),
         refuses: true,
         check: to_bytes,
     },
     Leaf {
         name: "round_to_i32s",
-        linked: ours::nup_round_to_i32s.is_some(),
         refuses: true,
         check: round_to_i32s,
     },
     Leaf {
         name: "copy",
-        linked: ours::nup_copy.is_some(),
         refuses: true,
         check: copy,
     },
     Leaf {
         name: "clear",
-        linked: ours::nup_clear.is_some(),
         refuses: false,
         check: clear,
     },
@@ -113,49 +108,49 @@ fn check<A: Copy + std::fmt::Debug, B: Copy + PartialEq + std::fmt::Debug>(
 
 fn to_bytes(rng: &mut Rng, refused: bool) -> Result<(), String> {
     let (n, m) = lengths(rng, refused);
-    let call = ours::nup_to_bytes.expect("linked");
     let out = Lent::new(&vec![0x5a; m], 0xa5, rng.below(4) as usize);
     check(
         &floats(rng, n),
         out,
         |x| x as u8,
-        |xs, out| unsafe { call(xs.as_ptr(), xs.len(), out.as_mut_ptr(), out.len()) },
+        |xs, out| unsafe { ours::nup_to_bytes(xs.as_ptr(), xs.len(), out.as_mut_ptr(), out.len()) },
     )
 }
 
 fn round_to_i32s(rng: &mut Rng, refused: bool) -> Result<(), String> {
     let (n, m) = lengths(rng, refused);
-    let call = ours::nup_round_to_i32s.expect("linked");
     let out = Lent::new(&vec![0x5a5a; m], -1, rng.below(4) as usize);
     check(
         &floats(rng, n),
         out,
         |x| x.round() as i32,
-        |xs, out| unsafe { call(xs.as_ptr(), xs.len(), out.as_mut_ptr(), out.len()) },
+        |xs, out| unsafe {
+            ours::nup_round_to_i32s(xs.as_ptr(), xs.len(), out.as_mut_ptr(), out.len())
+        },
     )
 }
 
 fn copy(rng: &mut Rng, refused: bool) -> Result<(), String> {
     let (n, m) = lengths(rng, refused);
-    let call = ours::nup_copy.expect("linked");
     let bytes: Vec<u8> = (0..n).map(|_| rng.byte()).collect();
     let out = Lent::new(&vec![0x5a; m], 0xa5, rng.below(4) as usize);
     check(
         &bytes,
         out,
         |b| b,
-        |bytes, out| unsafe { call(bytes.as_ptr(), bytes.len(), out.as_mut_ptr(), out.len()) },
+        |bytes, out| unsafe {
+            ours::nup_copy(bytes.as_ptr(), bytes.len(), out.as_mut_ptr(), out.len())
+        },
     )
 }
 
 fn clear(rng: &mut Rng, _: bool) -> Result<(), String> {
     let (n, _) = lengths(rng, false);
-    let call = ours::nup_clear.expect("linked");
     let out = Lent::new(&vec![0x5a; n], 0xa5, rng.below(4) as usize);
     check(
         &vec![(); n],
         out,
         |_| 0,
-        |_, out| unsafe { call(out.as_mut_ptr(), out.len()) },
+        |_, out| unsafe { ours::nup_clear(out.as_mut_ptr(), out.len()) },
     )
 }

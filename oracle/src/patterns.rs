@@ -13,23 +13,23 @@ const SHOWN: u64 = 10;
 
 type Call<T> = unsafe extern "C" fn(*const f32, usize, *mut T, usize) -> Answer;
 
-/// One block in `part`. False where a pattern differs or a leaf is not linked.
-pub fn run(part: u32) -> bool {
+/// One block in `part`; the error is what to print before leaving with status 1.
+pub fn run(part: u32) -> Result<(), String> {
+    ours::linked()?;
     let bytes = all(part, "to_byte", ours::nup_to_bytes, |x| x as u8);
     let rounds = all(part, "round_to_i32", ours::nup_round_to_i32s, |x| {
         x.round() as i32
     });
-    bytes && rounds
+    match bytes && rounds {
+        true => Ok(()),
+        false => Err("a pattern differs".to_string()),
+    }
 }
 
-fn all<T>(part: u32, name: &str, call: Option<Call<T>>, rust: fn(f32) -> T) -> bool
+fn all<T>(part: u32, name: &str, call: Call<T>, rust: fn(f32) -> T) -> bool
 where
     T: Copy + Default + PartialEq + std::fmt::Debug,
 {
-    let Some(call) = call else {
-        println!("{name}: not in the library");
-        return false;
-    };
     let (next, differences) = (AtomicU32::new(0), AtomicU64::new(0));
     let work = || {
         let mut xs = vec![0.0f32; BLOCK];

@@ -28,7 +28,7 @@ pub fn list(primitive: &Primitive) -> Vec<u8> {
         };
         let case = match i % 3 {
             2 => primitive.draw_spoiled(&mut rng, limits),
-            _ => (primitive.draw)(&mut rng, limits),
+            _ => primitive.drawn(&mut rng, limits),
         };
         let before = list.len();
         write_case(&mut list, primitive, &case);
@@ -120,7 +120,14 @@ mod tests {
                 list.len()
             );
             assert!(counts[0] > 150 && counts.iter().sum::<usize>() > 250);
-            let shapeless = ["morphology", "composite"].contains(&primitive.name);
+            let shapeless = [
+                "morphology",
+                "composite",
+                "displacement_map",
+                "diffuse_lighting",
+                "specular_lighting",
+            ]
+            .contains(&primitive.name);
             for (number, count) in counts.iter().enumerate() {
                 assert_eq!(
                     *count == 0,

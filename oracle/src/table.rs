@@ -9,11 +9,20 @@ pub const SIDE: u32 = 2048;
 /// The most entries of a transfer table.
 pub const ENTRIES: usize = 256;
 
+/// The most columns or rows of a kernel.
+pub const KERNEL_SIDE: u32 = 15;
+/// The smallest size of a divisor.
+pub const LEAST_DIVISOR: f32 = 1.0 / 65536.0;
+
 /// A closed range of document 01.
 pub type Range = (f32, f32);
-/// Matrix, Saturate, table values, slope, intercept, k1..k4.
+/// Kernel, bias, matrix, Saturate, table values, slope, intercept, k1..k4.
 pub const WIDE: Range = (-65536.0, 65536.0);
 pub const RADII: Range = (0.0, 65536.0);
+/// Displacement's sx and sy.
+pub const CANVAS: Range = (-16.0, 16.0);
+/// Displacement's scale.
+pub const SCALE: Range = (-4096.0, 4096.0);
 
 /// What a primitive's parameters say to tests 3, 4 and 5.
 #[derive(Default)]

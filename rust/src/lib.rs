@@ -20,9 +20,13 @@
 pub mod color_matrix;
 pub mod component_transfer;
 pub mod composite;
+pub mod convolve_matrix;
+pub mod displacement_map;
 mod library;
+pub mod lighting;
 pub mod morphology;
 mod refusal;
+pub mod turbulence;
 
 pub use refusal::Refusal;
 

@@ -87,4 +87,93 @@ unsafe extern "C" {
         dest: *mut u8,
         dest_len: usize,
     ) -> Answer;
+
+    pub fn nup_convolve_matrix(
+        width: u32,
+        height: u32,
+        columns: u32,
+        rows: u32,
+        target_x: u32,
+        target_y: u32,
+        kernel: *const f32,
+        kernel_len: usize,
+        divisor: f32,
+        bias: f32,
+        edge: u8,
+        preserve_alpha: u8,
+        src: *mut u8,
+        src_len: usize,
+        scratch: *mut u8,
+        scratch_len: usize,
+    ) -> Answer;
+
+    pub fn nup_displacement_map(
+        width: u32,
+        height: u32,
+        x_channel: u8,
+        y_channel: u8,
+        sx: f32,
+        sy: f32,
+        scale: f32,
+        src: *const u8,
+        src_len: usize,
+        map: *const u8,
+        map_len: usize,
+        dest: *mut u8,
+        dest_len: usize,
+    ) -> Answer;
+
+    pub fn nup_diffuse_lighting(
+        width: u32,
+        height: u32,
+        light: u8,
+        x: f32,
+        y: f32,
+        z: f32,
+        surface_scale: f32,
+        diffuse_constant: f32,
+        red: u8,
+        green: u8,
+        blue: u8,
+        src: *const u8,
+        src_len: usize,
+        dest: *mut u8,
+        dest_len: usize,
+    ) -> Answer;
+
+    pub fn nup_turbulence(
+        width: u32,
+        height: u32,
+        offset_x: f64,
+        offset_y: f64,
+        sx: f64,
+        sy: f64,
+        base_frequency_x: f64,
+        base_frequency_y: f64,
+        num_octaves: u32,
+        seed: i32,
+        stitch_tiles: u8,
+        kind: u8,
+        dest: *mut u8,
+        dest_len: usize,
+    ) -> Answer;
+
+    pub fn nup_specular_lighting(
+        width: u32,
+        height: u32,
+        light: u8,
+        x: f32,
+        y: f32,
+        z: f32,
+        surface_scale: f32,
+        specular_constant: f32,
+        specular_exponent: f32,
+        red: u8,
+        green: u8,
+        blue: u8,
+        src: *const u8,
+        src_len: usize,
+        dest: *mut u8,
+        dest_len: usize,
+    ) -> Answer;
 }

@@ -2,3 +2,6 @@ mod Mapping
 mod Calls
 mod Operators
 mod Functions
+mod Naming
+mod Selectors
+mod Lights

@@ -1,35 +1,48 @@
 -- The laws of an operator's number: one that names a case changes no answer, and any other is refused after all other tests.
-use Prim.Native.Nat.{ℕ, zero, suc}
+use Prim.Native.Nat.{ℕ, zero, suc, _≤_, _<_}
 use mathlib.Core.Path.{_≡_, refl}
 use mathlib.Core.List.{List}
-use Rattle.sheet.specs.declared.Refusal.{Refusal}
-use Rattle.sheet.specs.declared.Refusal.the-variants.{Range}
+use native.Mathlib.Omega.{arith}
 use Rattle.sheet.specs.declared.Answer.{Answer}
 use Rattle.sheet.specs.declared.Answer.the-variants.{Done, Refused}
-use Rattle.sheet.specs.Answer.{refused, onDone, andThen}
-use Rattle.sheet.specs.Contract.{Sheet, was, left, Filtered, Cleared}
-use Rattle.sheet.proofs.Contracts.{filtered-refused, cleared-refused}
-use Rattle.nuprikhen.specs.Numbers.{operatorAnswer}
+use Rattle.sheet.specs.Answer.{IsRefusal, refusal, andThen}
+use Rattle.sheet.specs.Contract.{Lent, was, became, Filtered, Cleared}
+use Rattle.sheet.proofs.Contracts.{filtered-refused, holds-refused}
+use Rattle.morphology.specs.declared.operator.MorphologyOperator.the-variants.{Erode}
+use Rattle.nuprikhen.specs.Numbers.{operatorOf, operatorAnswer}
 
-then-done : (p : Answer) → p ≡ andThen p Done
+-- ---- the two cases
+pub not-zero : (op : ℕ) → (op ≡ 0 → ⊥) → Erode ≡ operatorOf op
+not-zero zero h = absurd (h refl)
+not-zero (suc n) h = refl
+
+-- ---- the answers
+pub then-done : (p : Answer) → p ≡ andThen p Done
 then-done Done = refl
 then-done (Refused r i) = refl
 
-then-refused : (p : Answer) (e : Refusal) (a b : List ℕ) → onDone (andThen p (refused e)) a b ≡ b
-then-refused Done e a b = refl
-then-refused (Refused r i) e a b = refl
+pub then-passes : {p q : Answer} → q ≡ Done → p ≡ andThen p q
+then-passes {p} {q} e = rw e (then-done p)
 
-out-of-range : (op : ℕ) → (op ≡ 0 → ⊥) → (op ≡ 1 → ⊥) → operatorAnswer op ≡ refused Range
-out-of-range zero a b = absurd (a refl)
-out-of-range (suc zero) a b = absurd (b refl)
-out-of-range (suc (suc n)) a b = refl
+pub then-refuses : (p : Answer) → IsRefusal (andThen p (refusal 5))
+then-refuses Done = tt
+then-refuses (Refused r i) = tt
 
--- n is a number that names a case
-pub named : (op n : ℕ) → op ≡ n → operatorAnswer n ≡ Done → (p : Answer) → p ≡ andThen p (operatorAnswer op)
-named op n e d p = rw (e, d) (then-done p)
+in-range : (op : ℕ) → op ≤ 1 → operatorAnswer op ≡ Done
+in-range zero h = refl
+in-range (suc zero) h = refl
+in-range (suc (suc n)) h = absurd (omega arith)
 
-pub unnamed : (op : ℕ) → (op ≡ 0 → ⊥) → (op ≡ 1 → ⊥) → {r : Answer} (p : Answer) → r ≡ andThen p (refused Range) → {new : List ℕ} {src scratch : Sheet} → left src ≡ was src → left scratch ≡ was scratch → Filtered (andThen p (operatorAnswer op)) r new src × Cleared (andThen p (operatorAnswer op)) scratch
-unnamed op not0 not1 {r} p e s t =
-    let z : r ≡ andThen p (operatorAnswer op) = rw (out-of-range op not0 not1) e in
-    let refuses : (a b : List ℕ) → onDone r a b ≡ b = λ a b. rw e (then-refused p Range a b) in
-    (filtered-refused z refuses s, cleared-refused z refuses t)
+out-of-range : (op : ℕ) → 1 < op → operatorAnswer op ≡ refusal 5
+out-of-range zero h = absurd (omega arith)
+out-of-range (suc zero) h = absurd (omega arith)
+out-of-range (suc (suc n)) h = refl
+
+pub named : (op : ℕ) → op ≤ 1 → (p : Answer) → p ≡ andThen p (operatorAnswer op)
+named op h p = rw (in-range op h) (then-done p)
+
+pub unnamed : (op : ℕ) → 1 < op → {r : Answer} (p : Answer) → r ≡ andThen p (refusal 5) → {new : List ℕ} {src scratch : Lent ℕ} → became src ≡ was src → became scratch ≡ was scratch → Filtered (andThen p (operatorAnswer op)) r new src × Cleared 0 (andThen p (operatorAnswer op)) scratch
+unnamed op h {r} p e k l =
+    let z : r ≡ andThen p (operatorAnswer op) = rw (out-of-range op h) e in
+    let refuses : IsRefusal r = rw e (then-refuses p) in
+    (filtered-refused z refuses k, holds-refused z refuses l)

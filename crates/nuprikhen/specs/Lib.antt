@@ -1,2 +1,6 @@
 pub mod Called
+pub mod Colours
 pub mod Numbers
+pub mod Convolving
+pub mod Channels
+pub mod Noise

@@ -10,6 +10,7 @@ ghost use lib.Ieee.{toUnsigned};
 ghost use Rattle.floats.specs.Round.{roundTo};
 ghost use Rattle.sheet.specs.declared.Answer.the-variants.{Done};
 ghost use Rattle.sheet.specs.Size.{lengthsAnswer};
+ghost use Rattle.sheet.specs.Contract.{was, became};
 ghost use Rattle.sheet.specs.Tabulate.{zeros};
 ghost use Rattle.nuprikhen.specs.Called.{Called, pairAnswer};
 
@@ -24,7 +25,7 @@ fn test(a: usize, b: usize) -> Answer
 
 fn to_bytes(xs: &[f32], out: &mut [u8])
     requires { ⌜ length (now xs) ≡ length (now out) ⌝ }
-    ensures { λ _. ⌜ now (out .exit) ≡ map (toUnsigned 8) (now (xs .entry)) ⌝ }
+    ensures { λ _. ⌜ became out ≡ map (toUnsigned 8) (was xs) ⌝ }
 {
     let mut i = 0;
     while i < out.len() {
@@ -35,7 +36,7 @@ fn to_bytes(xs: &[f32], out: &mut [u8])
 
 fn round_to_i32s(xs: &[f32], out: &mut [i32])
     requires { ⌜ length (now xs) ≡ length (now out) ⌝ }
-    ensures { λ _. ⌜ now (out .exit) ≡ map (roundTo 31) (now (xs .entry)) ⌝ }
+    ensures { λ _. ⌜ became out ≡ map (roundTo 31) (was xs) ⌝ }
 {
     let mut i = 0;
     while i < out.len() {
@@ -47,7 +48,7 @@ fn round_to_i32s(xs: &[f32], out: &mut [i32])
 // Each of xs as a byte.
 #[no_mangle]
 pub extern "C" fn nup_to_bytes(xs: &[f32], out: &mut [u8]) -> nup_answer
-    ensures { λ r. ⌜ Called (pairAnswer xs out) r (map (toUnsigned 8) (now (xs .entry))) out ⌝ }
+    ensures { λ r. ⌜ Called (pairAnswer xs out) r (map (toUnsigned 8) (was xs)) out ⌝ }
 {
     let tested = test(xs.len(), out.len());
     let Answer::Done = tested else {
@@ -60,7 +61,7 @@ pub extern "C" fn nup_to_bytes(xs: &[f32], out: &mut [u8]) -> nup_answer
 // Each of xs rounded, a half away from zero.
 #[no_mangle]
 pub extern "C" fn nup_round_to_i32s(xs: &[f32], out: &mut [i32]) -> nup_answer
-    ensures { λ r. ⌜ Called (pairAnswer xs out) r (map (roundTo 31) (now (xs .entry))) out ⌝ }
+    ensures { λ r. ⌜ Called (pairAnswer xs out) r (map (roundTo 31) (was xs)) out ⌝ }
 {
     let tested = test(xs.len(), out.len());
     let Answer::Done = tested else {
@@ -73,7 +74,7 @@ pub extern "C" fn nup_round_to_i32s(xs: &[f32], out: &mut [i32]) -> nup_answer
 // dst takes src's bytes.
 #[no_mangle]
 pub extern "C" fn nup_copy(src: &[u8], dst: &mut [u8]) -> nup_answer
-    ensures { λ r. ⌜ Called (pairAnswer src dst) r (now (src .entry)) dst ⌝ }
+    ensures { λ r. ⌜ Called (pairAnswer src dst) r (was src) dst ⌝ }
 {
     let tested = test(src.len(), dst.len());
     let Answer::Done = tested else {
@@ -86,7 +87,7 @@ pub extern "C" fn nup_copy(src: &[u8], dst: &mut [u8]) -> nup_answer
 // Every byte of dst becomes 0.
 #[no_mangle]
 pub extern "C" fn nup_clear(dst: &mut [u8]) -> nup_answer
-    ensures { λ r. ⌜ Called Done r (zeros (length (now (dst .entry)))) dst ⌝ }
+    ensures { λ r. ⌜ Called Done r (zeros (length (was dst))) dst ⌝ }
 {
     sheet::clear(dst);
     told(Answer::Done)

@@ -1,9 +1,14 @@
 // The C functions. Each is total and thin: it calls the Rattle function and turns the answer into two numbers.
 mod leaves;
+mod numbers;
 mod nup_color_matrix;
 mod nup_component_transfer;
 mod nup_composite;
+mod nup_convolve_matrix;
+mod nup_displacement_map;
+mod nup_lighting;
 mod nup_morphology;
+mod nup_turbulence;
 
 use sheet::Answer;
 ghost use Rattle.nuprikhen.specs.Called.{Told};

@@ -1,45 +1,41 @@
 // The colour matrix: a function for each of its cases.
+use crate::numbers::all_of;
 use crate::nup_answer;
 use crate::told;
 use color_matrix::ColorMatrix;
-use pool::Numbers;
 ghost use mathlib.Core.List.{[]};
 ghost use Rattle.sheet.specs.Contract.{was};
 ghost use Rattle.color_matrix.specs.declared.ColorMatrix.the-variants.{Matrix, Saturate, HueRotate, LuminanceToAlpha};
-ghost use Rattle.color_matrix.specs.ColorMatrix.{answer, filtered};
-ghost use Rattle.nuprikhen.specs.Called.{Called};
-ghost use Rattle.nuprikhen.specs.Numbers.{whole};
+ghost use Rattle.nuprikhen.specs.Colours.{Recoloured};
+ghost use Rattle.nuprikhen.specs.Numbers.{allOf};
+
+// Any of the cases; the numbers of a Matrix stand in the pool.
+fn recolour(
+    matrix: ColorMatrix,
+    pool: &[f32],
+    width: u32,
+    height: u32,
+    src: &mut [u8],
+) -> nup_answer
+    ensures { λ r. ⌜ Recoloured matrix (was pool) width height r src ⌝ }
+{
+    told(color_matrix::apply(matrix, pool, width as usize, height as usize, src))
+}
 
 // A matrix of twenty numbers on straight colour, in place.
 #[no_mangle]
 pub extern "C" fn nup_color_matrix(width: u32, height: u32, m: &[f32], src: &mut [u8]) -> nup_answer
-    ensures { λ r. ⌜ Called (answer (Matrix (whole (now (m .entry)))) (now (m .entry)) width height (was src)) r (filtered (Matrix (whole (now (m .entry)))) (now (m .entry)) (was src)) src ⌝ }
+    ensures { λ r. ⌜ Recoloured (Matrix (allOf (was m))) (was m) width height r src ⌝ }
 {
-    let numbers = Numbers {
-        start: 0,
-        length: m.len(),
-    };
-    told(color_matrix::apply(
-        ColorMatrix::Matrix(numbers),
-        m,
-        width as usize,
-        height as usize,
-        src,
-    ))
+    recolour(ColorMatrix::Matrix(all_of(m)), m, width, height, src)
 }
 
 // Saturation of straight colour, in place.
 #[no_mangle]
 pub extern "C" fn nup_saturate(width: u32, height: u32, v: f32, src: &mut [u8]) -> nup_answer
-    ensures { λ r. ⌜ Called (answer (Saturate v) [] width height (was src)) r (filtered (Saturate v) [] (was src)) src ⌝ }
+    ensures { λ r. ⌜ Recoloured (Saturate v) [] width height r src ⌝ }
 {
-    told(color_matrix::apply(
-        ColorMatrix::Saturate(v),
-        &[],
-        width as usize,
-        height as usize,
-        src,
-    ))
+    recolour(ColorMatrix::Saturate(v), &[], width, height, src)
 }
 
 // The hue of straight colour turned, in place, by the angle that has this cosine and this sine.
@@ -51,27 +47,21 @@ pub extern "C" fn nup_hue_rotate(
     sine: f32,
     src: &mut [u8],
 ) -> nup_answer
-    ensures { λ r. ⌜ Called (answer (HueRotate cosine sine) [] width height (was src)) r (filtered (HueRotate cosine sine) [] (was src)) src ⌝ }
+    ensures { λ r. ⌜ Recoloured (HueRotate cosine sine) [] width height r src ⌝ }
 {
-    told(color_matrix::apply(
+    recolour(
         ColorMatrix::HueRotate(cosine, sine),
         &[],
-        width as usize,
-        height as usize,
+        width,
+        height,
         src,
-    ))
+    )
 }
 
 // No colour, and the luminance of straight colour as alpha, in place.
 #[no_mangle]
 pub extern "C" fn nup_luminance_to_alpha(width: u32, height: u32, src: &mut [u8]) -> nup_answer
-    ensures { λ r. ⌜ Called (answer LuminanceToAlpha [] width height (was src)) r (filtered LuminanceToAlpha [] (was src)) src ⌝ }
+    ensures { λ r. ⌜ Recoloured LuminanceToAlpha [] width height r src ⌝ }
 {
-    told(color_matrix::apply(
-        ColorMatrix::LuminanceToAlpha,
-        &[],
-        width as usize,
-        height as usize,
-        src,
-    ))
+    recolour(ColorMatrix::LuminanceToAlpha, &[], width, height, src)
 }

@@ -1,18 +1,17 @@
 // Component transfer, with each channel's function as a number and its values.
+use crate::numbers::all_of;
 use crate::nup_answer;
 use crate::told;
 use component_transfer::TransferFunction;
-use pool::Numbers;
 use sheet::Answer;
 use sheet::Refusal;
 ghost use mathlib.Core.Path.{_≡_};
 ghost use Rattle.sheet.specs.Contract.{was, Filtered};
-ghost use Rattle.component_transfer.specs.ComponentTransfer.{answer, transferred};
 ghost use Rattle.nuprikhen.specs.Called.{Called};
-ghost use Rattle.nuprikhen.specs.Numbers.{linearOf, functionOf, testedBy, byteBy};
+ghost use Rattle.nuprikhen.specs.Numbers.{linearOf, functionOf, testedBy, transferAnswer, transferBytes};
 
 fn linear_of(values: &[f32]) -> TransferFunction
-    ensures { λ f. ⌜ f ≡ linearOf (now (values .entry)) ⌝ }
+    ensures { λ f. ⌜ f ≡ linearOf (was values) ⌝ }
 {
     if values.len() == 2 {
         return TransferFunction::Linear(values[0], values[1]);
@@ -22,12 +21,9 @@ fn linear_of(values: &[f32]) -> TransferFunction
 
 // The function of this number.
 fn function_of(kind: u8, values: &[f32]) -> TransferFunction
-    ensures { λ f. ⌜ f ≡ functionOf kind (now (values .entry)) ⌝ }
+    ensures { λ f. ⌜ f ≡ functionOf kind (was values) ⌝ }
 {
-    let entries = Numbers {
-        start: 0,
-        length: values.len(),
-    };
+    let entries = all_of(values);
     if kind == 0 {
         return TransferFunction::Identity;
     }
@@ -70,11 +66,11 @@ fn apply_numbered(
     height: usize,
     src: &mut [u8],
 ) -> Answer
-    ensures { λ n. ⌜ Filtered (answer (testedBy red r) (testedBy green g) (testedBy blue b) (testedBy alpha a) width height (was src)) n (transferred (byteBy red r) (byteBy green g) (byteBy blue b) (byteBy alpha a) (was src)) src ⌝ }
+    ensures { λ n. ⌜ Filtered (transferAnswer red r green g blue b alpha a width height src) n (transferBytes red r green g blue b alpha a src) src ⌝ }
 {
-    let sized = sheet::test1(width, height, src.len());
-    let Answer::Done = sized else {
-        return sized;
+    let sheets = sheet::test1(width, height, src.len());
+    let Answer::Done = sheets else {
+        return sheets;
     };
     let tested = component_transfer::of_all(
         test_numbered(red, r),
@@ -116,7 +112,7 @@ pub extern "C" fn nup_component_transfer(
     a: &[f32],
     src: &mut [u8],
 ) -> nup_answer
-    ensures { λ n. ⌜ Called (answer (testedBy red r) (testedBy green g) (testedBy blue b) (testedBy alpha a) width height (was src)) n (transferred (byteBy red r) (byteBy green g) (byteBy blue b) (byteBy alpha a) (was src)) src ⌝ }
+    ensures { λ n. ⌜ Called (transferAnswer red r green g blue b alpha a width height src) n (transferBytes red r green g blue b alpha a src) src ⌝ }
 {
     told(apply_numbered(
         red,

@@ -8,7 +8,7 @@ use super::{Primitive, long_rows};
 use crate::case::{Answer, Case, Param};
 use crate::exact;
 use crate::filter::{self, ImageRefMut, lent};
-use crate::nasty::{self, Limits};
+use crate::nasty;
 use crate::ours;
 use crate::rng::Rng;
 use crate::table::{Reading, WIDE};
@@ -101,8 +101,7 @@ fn known() -> Vec<Case> {
     cases
 }
 
-fn draw(rng: &mut Rng, limits: Limits) -> Case {
-    let (width, height) = nasty::size(rng, limits);
+fn draw(rng: &mut Rng, width: u32, height: u32) -> Case {
     let params = match rng.below(8) {
         0..3 => matrix(&draw_matrix(rng)),
         3 | 4 => saturate(nasty::float(rng, WIDE)),
@@ -207,27 +206,19 @@ fn rust(case: &Case, sheets: &mut [Vec<u8>]) {
     }
 }
 
-fn ours(case: &Case, sheets: &mut [&mut [u8]]) -> Option<Answer> {
+fn ours(case: &Case, sheets: &mut [&mut [u8]]) -> Answer {
     let [src] = sheets else { unreachable!() };
     let (w, h) = (case.width, case.height);
     let (at, length) = (src.as_mut_ptr(), src.len());
-    Some(match case.choice(0) {
+    match case.choice(0) {
         MATRIX => {
             let m = case.floats(1);
-            let call = ours::nup_color_matrix?;
-            unsafe { call(w, h, m.as_ptr(), m.len(), at, length) }
+            unsafe { ours::nup_color_matrix(w, h, m.as_ptr(), m.len(), at, length) }
         }
-        SATURATE => {
-            let call = ours::nup_saturate?;
-            unsafe { call(w, h, case.float(1), at, length) }
-        }
-        HUE_ROTATE => {
-            let call = ours::nup_hue_rotate?;
-            unsafe { call(w, h, case.float(1), case.float(2), at, length) }
-        }
-        _ => {
-            let call = ours::nup_luminance_to_alpha?;
-            unsafe { call(w, h, at, length) }
-        }
-    })
+        SATURATE => unsafe { ours::nup_saturate(w, h, case.float(1), at, length) },
+        HUE_ROTATE => unsafe {
+            ours::nup_hue_rotate(w, h, case.float(1), case.float(2), at, length)
+        },
+        _ => unsafe { ours::nup_luminance_to_alpha(w, h, at, length) },
+    }
 }

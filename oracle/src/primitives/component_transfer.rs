@@ -6,7 +6,7 @@ use usvg::filter::{ComponentTransfer, TransferFunction};
 use super::{Primitive, long_rows};
 use crate::case::{Answer, Case, Param};
 use crate::filter::{self, ImageRefMut};
-use crate::nasty::{self, Limits};
+use crate::nasty;
 use crate::ours;
 use crate::rng::Rng;
 use crate::table::{ENTRIES, Reading, WIDE};
@@ -109,8 +109,7 @@ fn known() -> Vec<Case> {
     cases
 }
 
-fn draw(rng: &mut Rng, limits: Limits) -> Case {
-    let (width, height) = nasty::size(rng, limits);
+fn draw(rng: &mut Rng, width: u32, height: u32) -> Case {
     let channels = [(); 4].map(|_| draw_channel(rng));
     case(width, height, channels, nasty::sheet(rng, width, height))
 }
@@ -202,14 +201,13 @@ fn rust(case: &Case, sheets: &mut [Vec<u8>]) {
     filter::component_transfer::apply(&fe, image);
 }
 
-fn ours(case: &Case, sheets: &mut [&mut [u8]]) -> Option<Answer> {
+fn ours(case: &Case, sheets: &mut [&mut [u8]]) -> Answer {
     let [src] = sheets else { unreachable!() };
-    let call = ours::nup_component_transfer?;
     let kind = [0, 2, 4, 6].map(|i| case.choice(i) as u8);
     let values = [1, 3, 5, 7].map(|i| case.floats(i));
     let [r, g, b, a] = &values;
-    Some(unsafe {
-        call(
+    unsafe {
+        ours::nup_component_transfer(
             case.width,
             case.height,
             kind[0],
@@ -227,5 +225,5 @@ fn ours(case: &Case, sheets: &mut [&mut [u8]]) -> Option<Answer> {
             src.as_mut_ptr(),
             src.len(),
         )
-    })
+    }
 }

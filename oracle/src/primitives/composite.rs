@@ -5,7 +5,7 @@ use rgb::FromSlice;
 use super::{Primitive, long_rows};
 use crate::case::{Answer, Case, Param};
 use crate::filter::{self, ImageRef, ImageRefMut};
-use crate::nasty::{self, Limits};
+use crate::nasty;
 use crate::ours;
 use crate::rng::Rng;
 use crate::table::{Reading, WIDE};
@@ -52,8 +52,7 @@ fn known() -> Vec<Case> {
     cases
 }
 
-fn draw(rng: &mut Rng, limits: Limits) -> Case {
-    let (width, height) = nasty::size(rng, limits);
+fn draw(rng: &mut Rng, width: u32, height: u32) -> Case {
     let style = rng.below(5);
     let mut k = [0.0; 4];
     for x in &mut k {
@@ -110,14 +109,13 @@ fn rust(case: &Case, sheets: &mut [Vec<u8>]) {
     );
 }
 
-fn ours(case: &Case, sheets: &mut [&mut [u8]]) -> Option<Answer> {
+fn ours(case: &Case, sheets: &mut [&mut [u8]]) -> Answer {
     let [src1, src2, dest] = sheets else {
         unreachable!()
     };
-    let call = ours::nup_arithmetic?;
     let [k1, k2, k3, k4] = numbers(case);
-    Some(unsafe {
-        call(
+    unsafe {
+        ours::nup_arithmetic(
             case.width,
             case.height,
             k1,
@@ -131,5 +129,5 @@ fn ours(case: &Case, sheets: &mut [&mut [u8]]) -> Option<Answer> {
             dest.as_mut_ptr(),
             dest.len(),
         )
-    })
+    }
 }

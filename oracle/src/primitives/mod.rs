@@ -3,6 +3,9 @@
 mod color_matrix;
 mod component_transfer;
 mod composite;
+mod convolve_matrix;
+mod displacement_map;
+mod lighting;
 mod morphology;
 
 use crate::case::{Answer, Case, Outcome};
@@ -18,8 +21,8 @@ pub struct Primitive {
     pub large: u32,
     /// Cases that are always among the stored ones: document 01's known results and edges.
     pub known: fn() -> Vec<Case>,
-    /// A case that is usually accepted.
-    pub draw: fn(&mut Rng, Limits) -> Case,
+    /// A case of this width and height that is accepted.
+    pub draw: fn(&mut Rng, u32, u32) -> Case,
     /// Spoils what only this primitive has: a shape, a unit pair, an enum.
     pub spoil: fn(&mut Rng, &mut Case),
     /// Its parameters, as tests 3 to 5 see them.
@@ -30,15 +33,19 @@ pub struct Primitive {
     pub dest: Option<usize>,
     /// The sheet that is scratch, all zero afterwards.
     pub scratch: Option<usize>,
-    /// The library's function, on the sheets in the case's order; None where it is not linked.
-    pub ours: fn(&Case, &mut [&mut [u8]]) -> Option<Answer>,
+    /// The library's function, on the sheets in the case's order.
+    pub ours: fn(&Case, &mut [&mut [u8]]) -> Answer,
 }
 
-pub const ALL: [Primitive; 4] = [
+pub const ALL: [Primitive; 8] = [
     morphology::PRIMITIVE,
     color_matrix::PRIMITIVE,
     composite::PRIMITIVE,
     component_transfer::PRIMITIVE,
+    convolve_matrix::PRIMITIVE,
+    displacement_map::PRIMITIVE,
+    lighting::DIFFUSE,
+    lighting::SPECULAR,
 ];
 
 impl Primitive {
@@ -67,9 +74,15 @@ impl Primitive {
         (self.rust)(case, sheets);
     }
 
+    /// A case of an awkward size that is accepted.
+    pub fn drawn(&self, rng: &mut Rng, limits: Limits) -> Case {
+        let (width, height) = nasty::size(rng, limits);
+        (self.draw)(rng, width, height)
+    }
+
     /// A case with one to three things spoiled, so that the order of the tests shows.
     pub fn draw_spoiled(&self, rng: &mut Rng, limits: Limits) -> Case {
-        let mut case = (self.draw)(rng, limits);
+        let mut case = self.drawn(rng, limits);
         for _ in 0..rng.pick(&[1, 1, 2, 3]) {
             match rng.one_in(3) {
                 true => (self.spoil)(rng, &mut case),

@@ -6,7 +6,7 @@ use usvg::filter::MorphologyOperator;
 use super::{Primitive, alphas, long_rows};
 use crate::case::{Answer, Case, Param};
 use crate::filter::{self, ImageRefMut};
-use crate::nasty::{self, Limits};
+use crate::nasty;
 use crate::ours;
 use crate::rng::Rng;
 use crate::table::{RADII, Reading};
@@ -27,6 +27,9 @@ pub const PRIMITIVE: Primitive = Primitive {
 
 const DILATE: u32 = 0;
 const ERODE: u32 = 1;
+
+/// Where both sides are longer radii are at most 4: the Rust slows with their product.
+const WIDEST: u32 = 64;
 
 fn case(width: u32, height: u32, op: u32, rx: f32, ry: f32, src: Vec<u8>) -> Case {
     let scratch = (0..src.len()).map(|i| 200 - i as u8 % 100).collect();
@@ -58,10 +61,12 @@ fn known() -> Vec<Case> {
     cases
 }
 
-fn draw(rng: &mut Rng, limits: Limits) -> Case {
-    let (width, height) = nasty::size(rng, limits);
+fn draw(rng: &mut Rng, width: u32, height: u32) -> Case {
     let src = nasty::sheet(rng, width, height);
-    let (rx, ry) = (nasty::radius(rng, width), nasty::radius(rng, height));
+    let (rx, ry) = match width.min(height) {
+        0..=WIDEST => (nasty::radius(rng, width), nasty::radius(rng, height)),
+        _ => (rng.below(9) as f32 / 2.0, rng.below(9) as f32 / 2.0),
+    };
     case(width, height, rng.pick(&[DILATE, ERODE]), rx, ry, src)
 }
 
@@ -88,13 +93,12 @@ fn rust(case: &Case, sheets: &mut [Vec<u8>]) {
     filter::morphology::apply(operator, case.float(1), case.float(2), image);
 }
 
-fn ours(case: &Case, sheets: &mut [&mut [u8]]) -> Option<Answer> {
+fn ours(case: &Case, sheets: &mut [&mut [u8]]) -> Answer {
     let [src, scratch] = sheets else {
         unreachable!()
     };
-    let call = ours::nup_morphology?;
-    Some(unsafe {
-        call(
+    unsafe {
+        ours::nup_morphology(
             case.width,
             case.height,
             case.choice(0) as u8,
@@ -105,5 +109,5 @@ fn ours(case: &Case, sheets: &mut [&mut [u8]]) -> Option<Answer> {
             scratch.as_mut_ptr(),
             scratch.len(),
         )
-    })
+    }
 }

@@ -178,7 +178,7 @@ fn draw_function(rng: &mut Rng, recipe: &mut Recipe, wild: bool) -> Function {
 fn drawn(rng: &mut Rng, name: &str) -> Case {
     let mut all = primitives::ALL.iter();
     let primitive = all.find(|primitive| primitive.name == name).unwrap();
-    (primitive.draw)(rng, LIMITS)
+    primitive.drawn(rng, LIMITS)
 }
 
 /// A recipe with the faults of these two numbers of the table, 0 for none; each may hide the other.

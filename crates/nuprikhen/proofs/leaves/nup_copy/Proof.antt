@@ -1,7 +1,8 @@
 -- The lengths are tested first, and what passes is handed on.
 use borrow.Author.Needs.{needs}
-use mathlib.Core.Path.{refl}
+use mathlib.Core.Path.{refl, _∙_}
 use Rattle.sheet.proofs.Answers.{refusing}
+use Rattle.sheet.proofs.Tabulated.{copied-all}
 use Rattle.nuprikhen.proofs.Calls.{called-refused, called-done, pair-same}
 use Rattle.nuprikhen.proofs.leaves.nup_copy.Statement.{statement}
 use Rattle.nuprikhen.proofs.leaves.nup_copy.Tie as tie
@@ -19,10 +20,12 @@ told-requires : tie.Need-told-requires
 told-requires c κs = search needs
 
 returns : tie.Need-returns
-returns c = called-refused (c .before .before .before .test .ensures) (c .told .ensures) (refusing (c .before .before .before .test .result) (c .before .before .match .keys2)) refl
+returns c =
+    let tested = c .before .before .before .test in
+    called-refused (tested .ensures) (c .told .ensures) (refusing (tested .result) (c .before .before .match .keys2)) refl
 
 copy-requires : tie.Need-copy-requires
-copy-requires c κs = pair-same (c .before .before .before .test .ensures) (c .before .enum-told .given .1)
+copy-requires c κs = search needs
 
 told-requires-2 : tie.Need-told-requires-2
 told-requires-2 c κs = search needs
@@ -31,7 +34,12 @@ same-length : tie.Need-same-length
 same-length c = search needs
 
 returns-2 : tie.Need-returns-2
-returns-2 c = called-done (c .before .before .before .before .before .before .before .test .ensures) (c .told2 .ensures) (c .before .before .before .before .before .enum-told .given .1) (c .before .before .before .copy .ensures)
+returns-2 c =
+    let the-test = c .before .before .before .before .before .before .before .test in
+    let the-enum-told = c .before .before .before .before .before .enum-told in
+    let e = the-test .ensures in
+    let d = the-enum-told .given .1 in
+    called-done e (c .told2 .ensures) d (c .before .before .before .copy .ensures ∙ copied-all _ _ (pair-same e d))
 
 pub nup-copy-spec : {M : Type 1} → statement M
 nup-copy-spec =

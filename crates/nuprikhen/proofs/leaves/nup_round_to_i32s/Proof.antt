@@ -19,7 +19,9 @@ told-requires : tie.Need-told-requires
 told-requires c κs = search needs
 
 returns : tie.Need-returns
-returns c = called-refused (c .before .before .before .test .ensures) (c .told .ensures) (refusing (c .before .before .before .test .result) (c .before .before .match .keys2)) refl
+returns c =
+    let tested = c .before .before .before .test in
+    called-refused (tested .ensures) (c .told .ensures) (refusing (tested .result) (c .before .before .match .keys2)) refl
 
 round-to-i32s-requires : tie.Need-round-to-i32s-requires
 round-to-i32s-requires c κs = pair-same (c .before .before .before .test .ensures) (c .before .enum-told .given .1)
@@ -31,7 +33,11 @@ same-length : tie.Need-same-length
 same-length c = search needs
 
 returns-2 : tie.Need-returns-2
-returns-2 c = called-done (c .before .before .before .before .before .before .test .ensures) (c .told2 .ensures) (c .before .before .before .before .enum-told .given .1) (c .before .before .round-to-i32s .ensures)
+returns-2 c =
+    let the-test = c .before .before .before .before .before .before .test in
+    let e = the-test .ensures in
+    let d = c .before .before .before .before .enum-told .given .1 in
+    called-done e (c .told2 .ensures) d (c .before .before .round-to-i32s .ensures)
 
 pub nup-round-to-i32s-spec : {M : Type 1} → statement M
 nup-round-to-i32s-spec =

@@ -1,13 +1,11 @@
 -- The tests come in the definition's order, and functions that pass are handed on.
 use borrow.Author.Needs.{needs}
 use mathlib.Core.Path.{refl}
-use denote.Ref.{now}
 use Rattle.sheet.proofs.Answers.{refusing, first-refusal, next-test}
 use Rattle.sheet.proofs.Contracts.{filtered-refused}
 use Rattle.component_transfer.specs.ComponentTransfer.{answer}
-use Rattle.component_transfer.proofs.Passed.{each-passes}
 use Rattle.nuprikhen.proofs.Calls.{filtered-as}
-use Rattle.nuprikhen.proofs.Functions.{passed-same, same-byte, same-answer, same-bytes}
+use Rattle.nuprikhen.proofs.Functions.{all-tested, all-same}
 use Rattle.nuprikhen.proofs.nup_component_transfer.apply_numbered.Statement.{statement}
 use Rattle.nuprikhen.proofs.nup_component_transfer.apply_numbered.Tie as tie
 
@@ -22,7 +20,7 @@ enum-told-2 c = search needs
 
 returns : tie.Need-returns
 unfolding answer
-returns c = filtered-refused (first-refusal _ (c .before .before .test1 .ensures) (refusing (c .before .before .test1 .result) (c .before .match .keys2))) (refusing (c .before .before .test1 .result) (c .before .match .keys2)) refl
+returns c = let t = refusing (c .before .before .test1 .result) (c .before .match .keys2) in filtered-refused (first-refusal _ (c .before .before .test1 .ensures) t) t refl
 
 test-numbered-requires : tie.Need-test-numbered-requires
 test-numbered-requires c κs = search needs
@@ -47,7 +45,10 @@ enum-told-4 c = search needs
 
 returns-2 : tie.Need-returns-2
 unfolding answer
-returns-2 c = filtered-refused (next-test (c .before .before .before .before .before .before .before .before .before .test1 .ensures) (c .before .before .before .before .before .before .before .enum-told .given .1) (cc (c .before .before .before .before .before .before .test-numbered .ensures, c .before .before .before .before .before .test-numbered2 .ensures, c .before .before .before .before .test-numbered3 .ensures, c .before .before .before .test-numbered4 .ensures, c .before .before .of-all .ensures))) (refusing (c .before .before .of-all .result) (c .before .match2 .keys2)) refl
+returns-2 c =
+    let a = c .before .before .before .before .before .before .before .before .before .before .before .before .before .before .before .args in
+    let e = all-tested (a .red) (a .green) (a .blue) (a .alpha) _ _ _ _ (c .before .before .of-all .ensures) (c .before .before .before .before .before .before .test-numbered .ensures) (c .before .before .before .before .before .test-numbered2 .ensures) (c .before .before .before .before .test-numbered3 .ensures) (c .before .before .before .test-numbered4 .ensures) in
+    filtered-refused (next-test (c .before .before .before .before .before .before .before .before .before .test1 .ensures) (c .before .before .before .before .before .before .before .enum-told .given .1) e) (refusing (c .before .before .of-all .result) (c .before .match2 .keys2)) refl
 
 function-of-requires : tie.Need-function-of-requires
 function-of-requires c κs = search needs
@@ -68,18 +69,11 @@ same-length : tie.Need-same-length
 same-length c = search needs
 
 returns-3 : tie.Need-returns-3
-returns-3 c = let each = each-passes (c .before .before .before .before .before .before .before .before .before .before .of-all .ensures) (c .before .before .before .before .before .before .before .before .enum-told3 .given .1) in
-    filtered-as refl refl (c .before .before .apply .ensures)
-    (same-answer (c .before .before .before .before .before .before .before .before .before .before .before .before .before .before .before .before .before .before .before .before .before .before .before .args .width) (c .before .before .before .before .before .before .before .before .before .before .before .before .before .before .before .before .before .before .before .before .before .before .before .args .height) (now (c .before .before .before .before .before .before .before .before .before .before .before .before .before .before .before .before .before .before .before .before .before .before .before .args .src))
-    (passed-same _ (c .before .before .before .before .before .before .before .before .before .before .before .before .before .before .before .before .before .before .before .before .before .before .before .args .red) (c .before .before .before .before .before .before .before .before .before .before .before .before .before .before .test-numbered .ensures) (each .0) (c .before .before .before .before .before .before .before .function-of .ensures))
-    (passed-same _ (c .before .before .before .before .before .before .before .before .before .before .before .before .before .before .before .before .before .before .before .before .before .before .before .args .green) (c .before .before .before .before .before .before .before .before .before .before .before .before .before .test-numbered2 .ensures) (each .1) (c .before .before .before .before .before .before .function-of2 .ensures))
-    (passed-same _ (c .before .before .before .before .before .before .before .before .before .before .before .before .before .before .before .before .before .before .before .before .before .before .before .args .blue) (c .before .before .before .before .before .before .before .before .before .before .before .before .test-numbered3 .ensures) (each .2) (c .before .before .before .before .before .function-of3 .ensures))
-    (passed-same _ (c .before .before .before .before .before .before .before .before .before .before .before .before .before .before .before .before .before .before .before .before .before .before .before .args .alpha) (c .before .before .before .before .before .before .before .before .before .before .before .test-numbered4 .ensures) (each .3) (c .before .before .before .before .function-of4 .ensures)))
-    (same-bytes (now (c .before .before .before .before .before .before .before .before .before .before .before .before .before .before .before .before .before .before .before .before .before .before .before .args .src))
-    (same-byte _ (c .before .before .before .before .before .before .before .function-of .ensures))
-    (same-byte _ (c .before .before .before .before .before .before .function-of2 .ensures))
-    (same-byte _ (c .before .before .before .before .before .function-of3 .ensures))
-    (same-byte _ (c .before .before .before .before .function-of4 .ensures)))
+returns-3 c =
+    let a = c .before .before .before .before .before .before .before .before .before .before .before .before .before .before .before .before .before .before .before .before .before .before .before .args in
+    let e = all-tested (a .red) (a .green) (a .blue) (a .alpha) _ _ _ _ (c .before .before .before .before .before .before .before .before .before .before .of-all .ensures) (c .before .before .before .before .before .before .before .before .before .before .before .before .before .before .test-numbered .ensures) (c .before .before .before .before .before .before .before .before .before .before .before .before .before .test-numbered2 .ensures) (c .before .before .before .before .before .before .before .before .before .before .before .before .test-numbered3 .ensures) (c .before .before .before .before .before .before .before .before .before .before .before .test-numbered4 .ensures) in
+    let same = all-same (a .red) (a .green) (a .blue) (a .alpha) _ _ _ _ e (c .before .before .before .before .before .before .before .before .enum-told3 .given .1) (c .before .before .before .before .before .before .before .function-of .ensures) (c .before .before .before .before .before .before .function-of2 .ensures) (c .before .before .before .before .before .function-of3 .ensures) (c .before .before .before .before .function-of4 .ensures) (a .width) (a .height) (a .src .now) in
+    filtered-as refl refl (same .0) (same .1) (c .before .before .apply .ensures)
 
 pub apply-numbered-spec : {M : Type 1} → statement M
 apply-numbered-spec =

@@ -1,13 +1,35 @@
--- A number that names a case is served by that case, and any other by the tests alone.
+-- A number that names an operator is served by it, and any other by the tests alone.
 use borrow.Author.Needs.{needs}
 use mathlib.Core.Path.{refl}
-use denote.Ref.{now}
+use Rattle.sheet.proofs.Answers.{both-tests}
 use Rattle.morphology.specs.Morphology.{answer}
 use Rattle.nuprikhen.specs.Numbers.{morphologyAnswer}
-use Rattle.nuprikhen.proofs.Calls.{filtered-as, cleared-as}
+use Rattle.nuprikhen.proofs.Calls.{holds-as, filtered-as}
 use Rattle.nuprikhen.proofs.Operators.{named, unnamed}
 use Rattle.nuprikhen.proofs.nup_morphology.apply_numbered.Statement.{statement}
 use Rattle.nuprikhen.proofs.nup_morphology.apply_numbered.Tie as tie
+
+test2-requires : tie.Need-test2-requires
+test2-requires c κs = search needs
+
+test-requires : tie.Need-test-requires
+test-requires c κs = search needs
+
+and-then-requires : tie.Need-and-then-requires
+and-then-requires c κs = search needs
+
+and-then-requires-2 : tie.Need-and-then-requires-2
+and-then-requires-2 c κs = search needs
+
+returns : tie.Need-returns
+unfolding morphologyAnswer answer
+returns c =
+    let a = c .before .before .before .before .before .before .before .args in
+    let e = both-tests (c .and-then2 .ensures) (both-tests (c .before .and-then .ensures) (c .before .before .before .test2 .ensures) (c .before .before .test .ensures)) refl in
+    unnamed _ (c .before .before .before .before .if1 .taken) (answer (a .rx) (a .ry) (a .width) (a .height) (a .src .now) (a .scratch .now)) e refl refl
+
+operator-of-requires : tie.Need-operator-of-requires
+operator-of-requires c κs = search needs
 
 apply-requires : tie.Need-apply-requires
 apply-requires c κs = search needs
@@ -18,41 +40,28 @@ same-length c = search needs
 same-length-2 : tie.Need-same-length-2
 same-length-2 c = search needs
 
-returns : tie.Need-returns
-unfolding morphologyAnswer
-returns c = (filtered-as refl refl (c .before .before .before .before .apply .ensures .0) (named _ 0 (c .before .before .before .before .before .before .before .if1 .taken) refl _) (rw (c .before .before .before .before .before .before .before .if1 .taken)), cleared-as refl refl (c .before .before .before .before .apply .ensures .1) (named _ 0 (c .before .before .before .before .before .before .before .if1 .taken) refl _))
-
-apply-requires-2 : tie.Need-apply-requires-2
-apply-requires-2 c κs = search needs
-
-same-length-3 : tie.Need-same-length-3
-same-length-3 c = search needs
-
-same-length-4 : tie.Need-same-length-4
-same-length-4 c = search needs
-
 returns-2 : tie.Need-returns-2
 unfolding morphologyAnswer
-returns-2 c = (filtered-as refl refl (c .before .before .before .before .apply2 .ensures .0) (named _ 1 (c .before .before .before .before .before .before .before .if2 .taken) refl _) (rw (c .before .before .before .before .before .before .before .if2 .taken)), cleared-as refl refl (c .before .before .before .before .apply2 .ensures .1) (named _ 1 (c .before .before .before .before .before .before .before .if2 .taken) refl _))
-
-no-operator-requires : tie.Need-no-operator-requires
-no-operator-requires c κs = search needs
-
-returns-3 : tie.Need-returns-3
-unfolding morphologyAnswer answer
-returns-3 c = unnamed _ (c .before .before .if1 .left) (c .before .if2 .left) (answer (c .before .before .before .before .before .args .rx) (c .before .before .before .before .before .args .ry) (c .before .before .before .before .before .args .width) (c .before .before .before .before .before .args .height) (now (c .before .before .before .before .before .args .src)) (now (c .before .before .before .before .before .args .scratch))) (c .no-operator .ensures) refl refl
+returns-2 c =
+    let the-if1 = c .before .before .before .before .before .before .before .before .if1 in
+    let the-operator-of = c .before .before .before .before .before .before .before .operator-of in
+    let done = c .before .before .before .before .apply .ensures in
+    let small = the-if1 .left in
+    let operator = the-operator-of .ensures in
+    let e = named _ small _ in
+    (filtered-as refl refl e (cc operator) (done .0), holds-as refl refl e refl (done .1))
 
 pub apply-numbered-spec : {M : Type 1} → statement M
 apply-numbered-spec =
     tie.close
     (tie.spec
+    test2-requires
+    test-requires
+    and-then-requires
+    and-then-requires-2
+    returns
+    operator-of-requires
     apply-requires
     same-length
     same-length-2
-    returns
-    apply-requires-2
-    same-length-3
-    same-length-4
-    returns-2
-    no-operator-requires
-    returns-3)
+    returns-2)

@@ -2,11 +2,8 @@
 use borrow.Author.Needs.{needs}
 use mathlib.Core.Path.{refl}
 use Rattle.nuprikhen.proofs.Calls.{filtered-called}
-use Rattle.nuprikhen.proofs.nup_color_matrix.nup_hue_rotate.Statement.{statement}
-use Rattle.nuprikhen.proofs.nup_color_matrix.nup_hue_rotate.Tie as tie
-
-slice-aggregate-apply : tie.Need-slice-aggregate-apply
-slice-aggregate-apply c = search needs
+use Rattle.nuprikhen.proofs.nup_color_matrix.recolour.Statement.{statement}
+use Rattle.nuprikhen.proofs.nup_color_matrix.recolour.Tie as tie
 
 apply-requires : tie.Need-apply-requires
 apply-requires c κs = search needs
@@ -20,6 +17,5 @@ same-length c = search needs
 returns : tie.Need-returns
 returns c = filtered-called refl refl (c .before .before .before .apply .ensures) (c .told .ensures)
 
-pub nup-hue-rotate-spec : {M : Type 1} → statement M
-nup-hue-rotate-spec =
-    tie.close (tie.spec slice-aggregate-apply apply-requires told-requires same-length returns)
+pub recolour-spec : {M : Type 1} → statement M
+recolour-spec = tie.close (tie.spec apply-requires told-requires same-length returns)

@@ -1,0 +1,68 @@
+//! The C functions as include/nuprikhen.h declares them. build.rs makes the oracle's own declarations of
+//! them; tests/declared.rs compares them with the others.
+
+/// A function: its name, its parameters and its result. A type is as in C.
+#[derive(Clone, Debug, PartialEq, Eq)]
+pub struct Function {
+    pub name: String,
+    pub params: Vec<Param>,
+    pub result: String,
+}
+
+#[derive(Clone, Debug, PartialEq, Eq)]
+pub struct Param {
+    pub kind: String,
+    pub name: String,
+}
+
+/// The types of the header, and the same in Rust.
+pub const TYPES: [(&str, &str); 11] = [
+    ("uint8_t", "u8"),
+    ("uint32_t", "u32"),
+    ("size_t", "usize"),
+    ("int32_t", "i32"),
+    ("float", "f32"),
+    ("double", "f64"),
+    ("const uint8_t *", "*const u8"),
+    ("const float *", "*const f32"),
+    ("uint8_t *", "*mut u8"),
+    ("int32_t *", "*mut i32"),
+    ("nup_answer", "Answer"),
+];
+
+/// The functions in the header's order.
+pub fn functions(header: &str) -> Vec<Function> {
+    let statements = without_comments(header);
+    let calls = statements
+        .split(';')
+        .filter_map(|text| text.strip_suffix(')')?.split_once('('));
+    calls.map(|(head, params)| function(head, params)).collect()
+}
+
+fn function(head: &str, params: &str) -> Function {
+    let head = param(head.lines().last().unwrap());
+    Function {
+        name: head.name,
+        params: params.split(',').map(param).collect(),
+        result: head.kind,
+    }
+}
+
+/// A type and, after it, a name.
+fn param(text: &str) -> Param {
+    let text = text.trim();
+    let end = text.rfind([' ', '*']).expect("a type before a name") + 1;
+    Param {
+        kind: text[..end].trim().to_string(),
+        name: text[end..].to_string(),
+    }
+}
+
+fn without_comments(text: &str) -> String {
+    let parts = text.split("/*").enumerate();
+    let outside = parts.map(|(i, part)| match i {
+        0 => part,
+        _ => part.split_once("*/").expect("a comment ends").1,
+    });
+    outside.collect()
+}
