@@ -28,6 +28,7 @@ pub mod RootPatterns
 pub mod RootEnds
 pub mod RootByDigits
 pub mod RootCorrected
+pub mod RootGuessed
 pub mod NarrowedSize
 pub mod NarrowedSign
 pub mod TowardZero

@@ -1,23 +1,16 @@
 -- A root by correcting a guess: the steps up and down to the nearest whole number, and the number whose root has an `f32`'s digits. Assumes nothing.
 use Prim.Native.Nat.{ℕ, zero, suc, _+_, _-_, _*_, _^_, _≤_, _<_}
 use mathlib.Core.Path.{_≡_, sym, ap, _∙_, subst}
-use mathlib.Core.Bool.{not}
 use native.Mathlib.Nat.{le-trans, le-of-eq, lt-of-not-le, not-le-of-lt, one-mul, mul-assoc, mul-comm, mul-pos, mul-le-mul, mul-le-mul-right, pow-suc}
 use native.Mathlib.Numerals.{add-one}
 use native.Mathlib.Omega.{arith}
-use lib.Dec.{T}
 use lib.Pow.{pow-mono, pow-pos}
-use lib.Ieee.{binary32, binary64, nanBits}
+use lib.Ieee.{binary32}
 use Rattle.floats.specs.inner.Roots.{Near, RootDigits}
 use Rattle.floats.proofs.RoundedRoot.{four}
-use Rattle.floats.proofs.RootPatterns.{pattern-ok}
-
--- the guess is no NaN
-pub guess-ok : (r : ℕ) → T (not (nanBits binary64 (6910469410427058089 - r)))
-guess-ok r = pattern-ok binary64 (6910469410427058089 - r) (omega arith) (omega arith)
 
 -- ---- the corrections
-pub square-most : (q : ℕ) → q ≤ 16777216 → q * q ≤ 281474976710656
+pub square-most : (q : ℕ) → q ≤ 33554432 → q * q ≤ 1125899906842624
 square-most q h = mul-le-mul h h
 
 pub more-left : (n q : ℕ) → n < 281474976710656 → q * q + q < n → q < 16777216

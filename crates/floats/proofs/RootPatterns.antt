@@ -35,6 +35,15 @@ module _ (f : Format) (b : ℕ) (h : b < top f) where
   unfolding ofFields
   value-high x e n = rw (unsigned, e, ne-eqb (suc x) (ones f) n) (odd-sign (prec f) false (hid f + b % hid f) x (low f))
 
+-- the two forms of a pattern: with no leading digit, and with one
+pub unpacked-low : (f : Format) (b : ℕ) → 0 < b → b < ones f * hid f → b / hid f ≡ 0 → Unpacked f b (b % hid f) 0
+unpacked-low binary32 b p h e = record { value = value-low binary32 b (omega arith) e; some = omega arith; digits = omega arith; few = omega arith }
+unpacked-low binary64 b p h e = record { value = value-low binary64 b (omega arith) e; some = omega arith; digits = omega arith; few = omega arith }
+
+pub unpacked-high : (f : Format) (b : ℕ) → b < ones f * hid f → (b / hid f ≡ 0 → ⊥) → Unpacked f b (hid f + b % hid f) (b / hid f - 1)
+unpacked-high binary32 b h n = record { value = value-high binary32 b (omega arith) (b / 8388608 - 1) (omega arith) (omega arith); some = omega arith; digits = omega arith; few = omega arith }
+unpacked-high binary64 b h n = record { value = value-high binary64 b (omega arith) (b / 4503599627370496 - 1) (omega arith) (omega arith); some = omega arith; digits = omega arith; few = omega arith }
+
 -- ---- the number under the root: one binary digit more where the exponent is odd
 module _ (m e : ℕ) (p : 0 < m) where
   pub under-some : 0 < m * (1 + e % 2)

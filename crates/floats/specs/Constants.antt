@@ -4,6 +4,9 @@ use lib.Ieee.{Float, binary32, ofBits}
 abbrev pub c0 : Float
 c0 = ofBits binary32 0
 
+abbrev pub half : Float
+half = ofBits binary32 0x3f00_0000
+
 abbrev pub c1 : Float
 c1 = ofBits binary32 0x3f80_0000
 

@@ -1,5 +1,5 @@
 -- Words of the square roots' private contracts.
-use Prim.Native.Nat.{ℕ, _+_, _-_, _*_, _^_, _≤_, _<_}
+use Prim.Native.Nat.{ℕ, _+_, _-_, _*_, _/_, _%_, _^_, _≤_, _<_}
 use mathlib.Core.Path.{_≡_}
 use mathlib.Core.Bool.{false}
 use lib.Ieee.{Format, prec, emax, low, ofBits}
@@ -28,3 +28,8 @@ pub record Unpacked (f : Format) (b m e : ℕ) : Type 0 where
   pub some : 0 < m
   pub digits : m < 2 ^ prec f
   pub few : e < 2 * emax f
+
+-- The number under the root of an `f32` with all digits, times a power of four: t has its fraction, and above it whether its exponent is
+-- odd, turned round.
+abbrev pub underRoot : ℕ → ℕ
+underRoot t = (8388608 + t % 8388608) * 8388608 * (1 + t / 8388608)

@@ -43,20 +43,28 @@ loop-less c = let few = scaled-few _ _ _ (c .before .loop .inv) (doubled-some (c
 loop-again : tie.Need-loop-again Inv-loop μ-loop
 loop-again c = scaled-more _ _ _ (c .before .loop .inv) (c .loop-test .taken)
 
-estimate-requires : tie.Need-estimate-requires Inv-loop μ-loop
-estimate-requires c κs = c .before .loop .inv .most
+leading-requires : tie.Need-leading-requires Inv-loop μ-loop
+leading-requires c κs = (c .loop-test .left, c .before .loop .inv .most)
+
+guess-requires : tie.Need-guess-requires Inv-loop μ-loop
+guess-requires c κs = c .leading .ensures
 
 raised-requires : tie.Need-raised-requires Inv-loop μ-loop
-raised-requires c κs = (c .before .before .loop .inv .most, c .estimate .ensures)
+raised-requires c κs = (c .before .before .before .loop .inv .most, c .guess .ensures)
 
 lowered-requires : tie.Need-lowered-requires Inv-loop μ-loop
-lowered-requires c κs = (scaled-some _ _ _ (c .before .before .before .loop .inv) (doubled-some (c .before .before .before .before .args .m) (c .before .before .before .before .args .odd) (c .before .before .before .before .pre .0)), c .raised .ensures .0, c .raised .ensures .1)
+lowered-requires c κs =
+    let s = c .before .before .before .before in
+    (scaled-some _ _ _ (s .loop .inv) (doubled-some (s .before .args .m) (s .before .args .odd) (s .before .pre .0)), c .raised .ensures .0, c .raised .ensures .1)
 
 cast-t8 : tie.Need-cast-t8 Inv-loop μ-loop
-cast-t8 c = let l = near-high _ _ 16777216 (c .before .before .before .before .loop .inv .most) (c .lowered .ensures) in record { fits = omega arith }
+cast-t8 c = let s = c .before .before .before .before .before in let l = near-high _ _ 16777216 (s .loop .inv .most) (c .lowered .ensures) in record { fits = omega arith }
 
 returns : tie.Need-returns Inv-loop μ-loop
-returns c = scaled-root _ _ _ (c .before .before .before .before .loop .inv) (doubled-some (c .before .before .before .before .before .args .m) (c .before .before .before .before .before .args .odd) (c .before .before .before .before .before .pre .0)) _ (c .before .before .before .loop-test .left) (c .lowered .ensures)
+returns c =
+    let t = c .before .before .before .before in
+    let s = t .before in
+    scaled-root _ _ _ (s .loop .inv) (doubled-some (s .before .args .m) (s .before .args .odd) (s .before .pre .0)) _ (t .loop-test .left) (c .lowered .ensures)
 
 pub digits-spec : {M : Type 1} → statement M
 digits-spec =
@@ -74,7 +82,8 @@ digits-spec =
     add-s
     loop-less
     loop-again
-    estimate-requires
+    leading-requires
+    guess-requires
     raised-requires
     lowered-requires
     cast-t8

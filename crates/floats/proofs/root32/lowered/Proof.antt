@@ -7,7 +7,7 @@ use Rattle.floats.proofs.root32.lowered.Statement.{statement}
 use Rattle.floats.proofs.root32.lowered.Tie as tie
 
 abbrev Inv-loop : tie.InvT-loop
-Inv-loop n high q₀ q = (q ≤ 16777216) × (n ≤ q * q + q)
+Inv-loop n high q₀ q = (q ≤ 33554432) × (n ≤ q * q + q)
 
 abbrev μ-loop : tie.MeasureT-loop
 μ-loop n high q₀ q = q

@@ -7,10 +7,10 @@ use Rattle.floats.proofs.root32.raised.Statement.{statement}
 use Rattle.floats.proofs.root32.raised.Tie as tie
 
 abbrev Inv-loop : tie.InvT-loop
-Inv-loop n guess q₀ q = q ≤ 16777216
+Inv-loop n first q₀ q = q ≤ 33554432
 
 abbrev μ-loop : tie.MeasureT-loop
-μ-loop n guess q₀ q = n - q
+μ-loop n first q₀ q = n - q
 
 loop-holds : tie.Need-loop-holds Inv-loop μ-loop
 loop-holds c = search needs
