@@ -7,7 +7,7 @@ use lib.Dec.{eqb, leb, ltb}
 use lib.Ieee.{Float, nan, binary32, ofBits, toUnsigned}
 use lib.Ieee.Scale.{finite}
 use Rattle.floats.specs.Channel.{normalized}
-use Rattle.floats.specs.Constants.{c0, c1, c255, c65536, m65536}
+use Rattle.floats.specs.Constants.{c0, half, c1, c255, c65536, m65536}
 use Rattle.floats.specs.Operators.{_⊕_, _⊗_, _⊘_}
 use Rattle.floats.specs.Order.{bound, within}
 use Rattle.sheet.specs.declared.Answer.{Answer}
@@ -116,9 +116,6 @@ unfoldable pub boundedColour : ConvolveMatrix → Float → Float → Float
 boundedColour m x b = cond (m .«preserve_alpha») (bound c0 x c1 ⊗ b) (bound c0 x b)
 
 -- a half is added before the cut
-abbrev pub half : Float
-half = ofBits binary32 0x3f00_0000
-
 unfoldable pub toByte : Float → ℕ
 toByte x = toUnsigned 8 (x ⊗ c255 ⊕ half)
 

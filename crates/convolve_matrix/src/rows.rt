@@ -10,7 +10,7 @@ ghost use lib.Ieee.{nan};
 ghost use Rattle.floats.specs.Constants.{c0};
 ghost use Rattle.floats.specs.Channel.{normalized};
 ghost use Rattle.floats.specs.Operators.{_⊕_, _⊗_};
-ghost use Rattle.sheet.specs.Size.{Sized};
+ghost use Rattle.sheet.specs.Size.{sideLimit, Sized};
 ghost use Rattle.convolve_matrix.specs.ConvolveMatrix.{rowSum, inOrder};
 ghost use Rattle.convolve_matrix.specs.inner.Rows.{Changed, Kernel, Widened, Added, shiftedBy};
 
@@ -112,7 +112,7 @@ fn add_columns(
     row: &[f32],
     sums: &mut [f32],
 )
-    requires { ⌜ Kernel matrix (now kernel) × (oy < matrix .rows) × (w ≤ 2048) ⌝ }
+    requires { ⌜ Kernel matrix (now kernel) × (oy < matrix .rows) × (w ≤ sideLimit) ⌝ }
     requires { ⌜ (4 * (w + (matrix .columns - 1)) ≤ length (now row)) × (4 * w ≤ length (now sums)) ⌝ }
     ensures { λ _. ⌜ Added (λ x c. inOrder (matrix .columns) (shiftedBy matrix (now (kernel .entry)) w (now (row .entry)) oy x c)) w (now (sums .entry)) (now (sums .exit)) ⌝ }
 {

@@ -8,6 +8,7 @@ use lib.IntN.{ℤ, pos, negsuc}
 use lib.Ieee.{Float, binary32, ofBits, ofInt}
 use lib.Ieee.Scale.{finite}
 use Rattle.floats.specs.Channel.{normalized}
+use Rattle.floats.specs.Constants.{half}
 use Rattle.floats.specs.Operators.{_⊕_, _⊖_, _⊗_}
 use Rattle.floats.specs.Order.{within}
 use Rattle.floats.specs.Round.{roundTo}
@@ -50,7 +51,7 @@ answer sx sy scale w h src map dest = andThen (sheetsAnswer w h (length src ∷ 
 -- ---- where a place reads
 -- resvg's `calc_offset`: `c as f32 / 255.0 - 0.5` of a byte c
 unfoldable pub offset : ℕ → Float
-offset c = normalized c ⊖ ofBits binary32 0x3f00_0000
+offset c = normalized c ⊖ half
 
 -- how far a byte c moves: `calc_offset(..) * s * scale`
 unfoldable pub shift : Float → Float → ℕ → Float

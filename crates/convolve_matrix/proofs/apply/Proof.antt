@@ -38,8 +38,9 @@ enum-told-4 c = search needs
 returns-2 : tie.Need-returns-2
 unfolding answer
 returns-2 c =
+    let the-test2 = c .before .before .before .before .before .test2 in
     let h = refusing (c .before .before .test .result) (c .before .match2 .keys2) in
-    let e = next-test (c .before .before .before .before .before .test2 .ensures) (c .before .before .before .enum-told .given .1) (c .before .before .test .ensures) in
+    let e = next-test (the-test2 .ensures) (c .before .before .before .enum-told .given .1) (c .before .before .test .ensures) in
     (filtered-refused e h refl, holds-refused e h refl)
 
 part-requires : tie.Need-part-requires
@@ -47,9 +48,12 @@ part-requires c κs = search needs
 
 convolve-requires : tie.Need-convolve-requires
 convolve-requires c κs =
+    let the-test2 = c .before .before .before .before .before .before .before .before .test2 in
+    let the-enum-told = c .before .before .before .before .before .before .enum-told in
+    let the-test = c .before .before .before .before .before .test in
     let a = c .before .before .before .before .before .before .before .before .before .before .before .before .args in
-    let d = sym (c .before .before .before .before .before .before .before .before .test2 .ensures) ∙ c .before .before .before .before .before .before .enum-told .given .1 in
-    let k = kernel-told (a .matrix) (a .pool .now) (sym (c .before .before .before .before .before .test .ensures) ∙ c .before .before .before .enum-told3 .given .1) in
+    let d = sym (the-test2 .ensures) ∙ the-enum-told .given .1 in
+    let k = kernel-told (a .matrix) (a .pool .now) (sym (the-test .ensures) ∙ c .before .before .before .enum-told3 .given .1) in
     let first = sheets-first (a .width) (a .height) _ _ d in
     let second = sheets-first (a .width) (a .height) _ _ (first .1) in
     (rw (c .before .before .part .ensures) k, (sheets-sized _ _ _ d, first .0, second .0))
@@ -63,12 +67,17 @@ same-length-2 c = search needs
 returns-3 : tie.Need-returns-3
 unfolding answer
 returns-3 c =
+    let the-test2 = c .before .before .before .before .before .before .before .before .before .before .before .before .before .test2 in
+    let the-enum-told = c .before .before .before .before .before .before .before .before .before .before .before .enum-told in
+    let the-test = c .before .before .before .before .before .before .before .before .before .before .test in
+    let the-enum-told3 = c .before .before .before .before .before .before .before .before .enum-told3 in
+    let the-part = c .before .before .before .before .before .before .before .part in
     let a = c .before .before .before .before .before .before .before .before .before .before .before .before .before .before .before .before .before .args in
-    let e = next-test (c .before .before .before .before .before .before .before .before .before .before .before .before .before .test2 .ensures) (c .before .before .before .before .before .before .before .before .before .before .before .enum-told .given .1) (c .before .before .before .before .before .before .before .before .before .before .test .ensures) in
-    let d = c .before .before .before .before .before .before .before .before .enum-told3 .given .1 in
+    let e = next-test (the-test2 .ensures) (the-enum-told .given .1) (the-test .ensures) in
+    let d = the-enum-told3 .given .1 in
     let done = c .before .before .before .before .convolve .ensures in
     let s = a .src .now in
-    (filtered-done e d (done .0 ∙ ap (λ (kernel : List Float). convolvedBy (a .matrix) kernel (a .width) (a .height) s) (c .before .before .before .before .before .before .before .part .ensures)), holds-done (sym e ∙ d) (done .1))
+    (filtered-done e d (done .0 ∙ ap (λ (kernel : List Float). convolvedBy (a .matrix) kernel (a .width) (a .height) s) (the-part .ensures)), holds-done (sym e ∙ d) (done .1))
 
 pub apply-spec : {M : Type 1} → statement M
 apply-spec =

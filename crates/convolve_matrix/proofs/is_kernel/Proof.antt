@@ -31,7 +31,9 @@ mul-if3 c =
 returns-3 : tie.Need-returns-3
 unfolding isKernel
 returns-3 c =
-    search (tests, allowed (c .before .before .before .before .before .before .is-side .ensures) (c .before .before .before .before .before .if1 .left), allowed (c .before .before .before .before .is-side2 .ensures) (c .before .before .before .if2 .left))
+    let the-is-side = c .before .before .before .before .before .before .is-side in
+    let the-if1 = c .before .before .before .before .before .if1 in
+    search (tests, allowed (the-is-side .ensures) (the-if1 .left), allowed (c .before .before .before .before .is-side2 .ensures) (c .before .before .before .if2 .left))
 
 is-in-requires : tie.Need-is-in-requires
 is-in-requires c κs = search needs
@@ -39,7 +41,10 @@ is-in-requires c κs = search needs
 returns-4 : tie.Need-returns-4
 unfolding isKernel
 returns-4 c =
-    search (tests, allowed (c .before .before .before .before .before .before .before .is-side .ensures) (c .before .before .before .before .before .before .if1 .left), allowed (c .before .before .before .before .before .is-side2 .ensures) (c .before .before .before .before .if2 .left), c .is-in .ensures)
+    let the-is-side = c .before .before .before .before .before .before .before .is-side in
+    let the-if1 = c .before .before .before .before .before .before .if1 in
+    let the-is-side2 = c .before .before .before .before .before .is-side2 in
+    search (tests, allowed (the-is-side .ensures) (the-if1 .left), allowed (the-is-side2 .ensures) (c .before .before .before .before .if2 .left), c .is-in .ensures)
 
 pub is-kernel-spec : {M : Type 1} → statement M
 is-kernel-spec =

@@ -22,7 +22,8 @@ are-finite-requires c κs = search needs
 returns-2 : tie.Need-returns-2
 unfolding kernelAnswer
 returns-2 c =
-    let m = c .before .before .before .before .before .before .args .matrix in
+    let the-args = c .before .before .before .before .before .before .args in
+    let m = the-args .matrix in
     search (tests, allowed (c .before .before .before .before .is-kernel .ensures) (c .before .before .before .if1 .left), denied (c .before .are-finite .ensures ∙ ap (areFinite m) (c .before .before .part .ensures)) (c .if2 .taken))
 
 part-requires-2 : tie.Need-part-requires-2
@@ -34,14 +35,22 @@ are-in-range-requires c κs = search needs
 returns-3 : tie.Need-returns-3
 unfolding kernelAnswer
 returns-3 c =
-    let m = c .before .before .before .before .before .before .before .before .before .args .matrix in
-    search (tests, allowed (c .before .before .before .before .before .before .before .is-kernel .ensures) (c .before .before .before .before .before .before .if1 .left), allowed (c .before .before .before .before .are-finite .ensures ∙ ap (areFinite m) (c .before .before .before .before .before .part .ensures)) (c .before .before .before .if2 .left), denied (c .before .are-in-range .ensures ∙ ap (areInRange m) (c .before .before .part2 .ensures)) (c .if3 .taken))
+    let the-args = c .before .before .before .before .before .before .before .before .before .args in
+    let the-is-kernel = c .before .before .before .before .before .before .before .is-kernel in
+    let the-if1 = c .before .before .before .before .before .before .if1 in
+    let the-part = c .before .before .before .before .before .part in
+    let m = the-args .matrix in
+    search (tests, allowed (the-is-kernel .ensures) (the-if1 .left), allowed (c .before .before .before .before .are-finite .ensures ∙ ap (areFinite m) (the-part .ensures)) (c .before .before .before .if2 .left), denied (c .before .are-in-range .ensures ∙ ap (areInRange m) (c .before .before .part2 .ensures)) (c .if3 .taken))
 
 returns-4 : tie.Need-returns-4
 unfolding kernelAnswer
 returns-4 c =
-    let m = c .before .before .before .before .before .before .before .before .before .args .matrix in
-    search (tests, allowed (c .before .before .before .before .before .before .before .is-kernel .ensures) (c .before .before .before .before .before .before .if1 .left), allowed (c .before .before .before .before .are-finite .ensures ∙ ap (areFinite m) (c .before .before .before .before .before .part .ensures)) (c .before .before .before .if2 .left), allowed (c .before .are-in-range .ensures ∙ ap (areInRange m) (c .before .before .part2 .ensures)) (c .if3 .left))
+    let the-args = c .before .before .before .before .before .before .before .before .before .args in
+    let the-is-kernel = c .before .before .before .before .before .before .before .is-kernel in
+    let the-if1 = c .before .before .before .before .before .before .if1 in
+    let the-part = c .before .before .before .before .before .part in
+    let m = the-args .matrix in
+    search (tests, allowed (the-is-kernel .ensures) (the-if1 .left), allowed (c .before .before .before .before .are-finite .ensures ∙ ap (areFinite m) (the-part .ensures)) (c .before .before .before .if2 .left), allowed (c .before .are-in-range .ensures ∙ ap (areInRange m) (c .before .before .part2 .ensures)) (c .if3 .left))
 
 pub test-spec : {M : Type 1} → statement M
 test-spec =

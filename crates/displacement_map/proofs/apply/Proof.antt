@@ -28,18 +28,24 @@ returns c = let e = both-tests (c .before .before .and-then .ensures) (c .before
 
 displace-requires : tie.Need-displace-requires
 displace-requires c κs =
-    let t = both-pass (both-tests (c .before .before .before .and-then .ensures) (c .before .before .before .before .before .test3 .ensures) (c .before .before .before .before .test .ensures)) (c .before .enum-told .given .1) in
-    let first = sheets-first (c .before .before .before .before .before .before .before .before .before .args .width) (c .before .before .before .before .before .before .before .before .before .args .height) _ _ (t .0) in
-    let second = sheets-first (c .before .before .before .before .before .before .before .before .before .args .width) (c .before .before .before .before .before .before .before .before .before .args .height) _ _ (first .1) in
-    let third = sheets-first (c .before .before .before .before .before .before .before .before .before .args .width) (c .before .before .before .before .before .before .before .before .before .args .height) _ _ (second .1) in
-    ((sheets-sized (c .before .before .before .before .before .before .before .before .before .args .width) (c .before .before .before .before .before .before .before .before .before .args .height) _ (t .0), t .1), (first .0, (second .0, third .0)))
+    let the-test3 = c .before .before .before .before .before .test3 in
+    let the-args = c .before .before .before .before .before .before .before .before .before .args in
+    let t = both-pass (both-tests (c .before .before .before .and-then .ensures) (the-test3 .ensures) (c .before .before .before .before .test .ensures)) (c .before .enum-told .given .1) in
+    let first = sheets-first (the-args .width) (the-args .height) _ _ (t .0) in
+    let second = sheets-first (the-args .width) (the-args .height) _ _ (first .1) in
+    let third = sheets-first (the-args .width) (the-args .height) _ _ (second .1) in
+    ((sheets-sized (the-args .width) (the-args .height) _ (t .0), t .1), (first .0, (second .0, third .0)))
 
 same-length : tie.Need-same-length
 same-length c = search needs
 
 returns-2 : tie.Need-returns-2
 unfolding answer
-returns-2 c = let e = both-tests (c .before .before .before .before .before .before .and-then .ensures) (c .before .before .before .before .before .before .before .before .test3 .ensures) (c .before .before .before .before .before .before .before .test .ensures) in filtered-done e (c .before .before .before .before .enum-told .given .1) (c .before .before .displace .ensures)
+returns-2 c =
+    let the-and-then = c .before .before .before .before .before .before .and-then in
+    let the-test3 = c .before .before .before .before .before .before .before .before .test3 in
+    let the-test = c .before .before .before .before .before .before .before .test in
+    let e = both-tests (the-and-then .ensures) (the-test3 .ensures) (the-test .ensures) in filtered-done e (c .before .before .before .before .enum-told .given .1) (c .before .before .displace .ensures)
 
 pub apply-spec : {M : Type 1} → statement M
 apply-spec =

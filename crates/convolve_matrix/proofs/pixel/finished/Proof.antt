@@ -27,8 +27,10 @@ of-requires c κs = search needs
 
 returns : tie.Need-returns
 returns c =
-    let e = c .before .before .before .before .before .before .new-alpha .ensures in
-    let f = rw e at (c .before .before .before .before .before .bound .ensures) in
+    let the-new-alpha = c .before .before .before .before .before .before .new-alpha in
+    let the-bound = c .before .before .before .before .before .bound in
+    let e = the-new-alpha .ensures in
+    let f = rw e at (the-bound .ensures) in
     channels-as (c .of .ensures) (rw (← f, ← e) (c .before .before .before .before .calc .ensures)) (rw (← f, ← e) (c .before .before .before .calc2 .ensures)) (rw (← f, ← e) (c .before .before .calc3 .ensures)) (rw (← f) (c .before .rounded-to-byte .ensures))
 
 pub finished-spec : {M : Type 1} → statement M

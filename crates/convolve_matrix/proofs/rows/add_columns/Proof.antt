@@ -79,7 +79,8 @@ shared-slice-read-k c =
 
 span-of-requires : tie.Need-span-of-requires Inv-loop μ-loop
 span-of-requires c κs =
-    let p = c .before .before .before .before .before .before .before .before .before .pre .0 .0 in
+    let the-pre = c .before .before .before .before .before .before .before .before .before .pre in
+    let p = the-pre .0 .0 in
     let a = p .across in
     let b = p .wide in
     search needs
@@ -110,18 +111,21 @@ loop-less c = search needs
 
 loop-again : tie.Need-loop-again Inv-loop μ-loop
 loop-again c =
-    let i = c .before .before .before .before .before .before .before .before .loop .inv in
+    let the-loop = c .before .before .before .before .before .before .before .before .loop in
+    let the-span-of = c .before .before .before .before .before .span-of in
+    let i = the-loop .inv in
     let a = c .before .before .before .before .before .before .before .before .before .before .before .before .before .before .before .args in
     let base = (a .matrix .rows - a .oy - 1) * a .matrix .columns in
-    (search needs, added-more _ _ _ (i .1) (column-added _ _ _ (a .kernel .now) base (a .matrix .columns) (a .row .now) _ _ _ (c .before .before .before .before .before .span-of .ensures) (c .before .before .before .before .before .before .before .before .loop .sums) _ (c .before .before .accumulate .ensures)))
+    (search needs, added-more _ _ _ (i .1) (column-added _ _ _ (a .kernel .now) base (a .matrix .columns) (a .row .now) _ _ _ (the-span-of .ensures) (the-loop .sums) _ (c .before .before .accumulate .ensures)))
 
 same-length : tie.Need-same-length Inv-loop μ-loop
 same-length c = search needs
 
 returns : tie.Need-returns Inv-loop μ-loop
 returns c =
+    let the-args = c .before .before .before .before .before .before .before .before .args in
     let m = c .before .loop .inv .1 in
-    let z : c .before .loop .ox ≡ c .before .before .before .before .before .before .before .before .args .matrix .columns = omega arith in
+    let z : c .before .loop .ox ≡ the-args .matrix .columns = omega arith in
     rw z at m
 
 pub add-columns-spec : {M : Type 1} → statement M

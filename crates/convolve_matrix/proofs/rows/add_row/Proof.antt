@@ -33,8 +33,9 @@ cast-widen-2 c = search needs
 
 mul-widen : tie.Need-mul-widen
 mul-widen c =
+    let the-pre = c .before .before .before .before .before .before .before .before .before .before .pre in
     let a = c .before .before .before .before .before .before .before .before .before .before .args in
-    let s = c .before .before .before .before .before .before .before .before .before .before .pre .1 .0 .0 in
+    let s = the-pre .1 .0 .0 in
     let high = s .high in
     let area = s .area in
     let l = line-inside (a .w) (a .h) (c .before .before .place .result) (rw (c .before .before .place .ensures) (placed _ _ _ high _)) in
@@ -42,8 +43,9 @@ mul-widen c =
 
 mul-widen-2 : tie.Need-mul-widen-2
 mul-widen-2 c =
+    let the-pre = c .before .before .before .before .before .before .before .before .before .before .pre in
     let a = c .before .before .before .before .before .before .before .before .before .before .args in
-    let s = c .before .before .before .before .before .before .before .before .before .before .pre .1 .0 .0 in
+    let s = the-pre .1 .0 .0 in
     let high = s .high in
     let area = s .area in
     let l = line-inside (a .w) (a .h) (c .before .before .place .result) (rw (c .before .before .place .ensures) (placed _ _ _ high _)) in
@@ -74,7 +76,11 @@ same-length-2 c = search needs
 
 returns-2 : tie.Need-returns-2
 returns-2 c =
-    row-added _ _ _ _ _ _ _ _ (c .before .before .before .before .before .before .before .before .before .before .before .place .ensures) (allowed (c .before .before .before .before .before .before .before .before .before .before .before .before .before .is-read .ensures) (c .before .before .before .before .before .before .before .before .before .before .before .before .if1 .left)) (c .before .before .before .before .before .before .before .widen .ensures) (c .before .before .add-columns .ensures)
+    let the-place = c .before .before .before .before .before .before .before .before .before .before .before .place in
+    let the-is-read = c .before .before .before .before .before .before .before .before .before .before .before .before .before .is-read in
+    let the-if1 = c .before .before .before .before .before .before .before .before .before .before .before .before .if1 in
+    let the-widen = c .before .before .before .before .before .before .before .widen in
+    row-added _ _ _ _ _ _ _ _ (the-place .ensures) (allowed (the-is-read .ensures) (the-if1 .left)) (the-widen .ensures) (c .before .before .add-columns .ensures)
 
 pub add-row-spec : {M : Type 1} → statement M
 add-row-spec =

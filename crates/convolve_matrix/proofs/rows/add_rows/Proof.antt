@@ -41,7 +41,8 @@ loop-less c = search needs
 
 loop-again : tie.Need-loop-again Inv-loop μ-loop
 loop-again c =
-    let i = c .before .before .before .before .before .before .before .before .loop .inv in
+    let the-loop = c .before .before .before .before .before .before .before .before .loop in
+    let i = the-loop .inv in
     (search needs, (search needs, added-more _ _ _ (i .1 .1) (c .before .before .before .before .add-row .ensures)))
 
 same-length : tie.Need-same-length Inv-loop μ-loop
@@ -52,8 +53,9 @@ same-length-2 c = search needs
 
 returns : tie.Need-returns Inv-loop μ-loop
 returns c =
+    let the-args = c .before .before .before .before .before .before .before .args in
     let m = c .before .loop .inv .1 .1 in
-    let z : c .before .loop .oy ≡ c .before .before .before .before .before .before .before .args .matrix .rows = omega arith in
+    let z : c .before .loop .oy ≡ the-args .matrix .rows = omega arith in
     rw z at m
 
 pub add-rows-spec : {M : Type 1} → statement M

@@ -33,9 +33,11 @@ same-length c = search needs
 
 returns : tie.Need-returns
 returns c =
-    let before = c .before .before .before .before .before .before .before .before .before .before .widen-places .ensures in
+    let the-widen-places = c .before .before .before .before .before .before .before .before .before .before .widen-places in
+    let the-to-numbers = c .before .before .before .before .before .before .to-numbers in
+    let before = the-widen-places .ensures in
     let after = c .before .before .widen-places2 .ensures in
-    let row = widened-row _ _ _ _ _ (c .before .before .before .before .before .before .to-numbers .ensures) in
+    let row = widened-row _ _ _ _ _ (the-to-numbers .ensures) in
     widened-join _ _ _ _ _ (search needs) (search needs) (widened-join _ _ _ _ _ (search needs) (search needs) before row) after
 
 pub widen-spec : {M : Type 1} → statement M

@@ -23,15 +23,17 @@ place-requires c κs = search needs
 
 mul-to-numbers : tie.Need-mul-to-numbers Inv-loop μ-loop
 mul-to-numbers c =
+    let the-pre = c .before .before .before .before .before .pre in
     let a = c .before .before .before .before .before .args in
-    let l = placed (a .target) (a .w) (c .before .before .loop .e) (c .before .before .before .before .before .pre .0 .0) (a .mode) in
+    let l = placed (a .target) (a .w) (c .before .before .loop .e) (the-pre .0 .0) (a .mode) in
     let e = c .place .ensures in
     search needs
 
 add-to-numbers : tie.Need-add-to-numbers Inv-loop μ-loop
 add-to-numbers c =
+    let the-pre = c .before .before .before .before .before .pre in
     let a = c .before .before .before .before .before .args in
-    let l = placed (a .target) (a .w) (c .before .before .loop .e) (c .before .before .before .before .before .pre .0 .0) (a .mode) in
+    let l = placed (a .target) (a .w) (c .before .before .loop .e) (the-pre .0 .0) (a .mode) in
     let e = c .place .ensures in
     search needs
 
@@ -40,8 +42,9 @@ mul-to-numbers-2 c = search needs
 
 to-numbers-requires : tie.Need-to-numbers-requires Inv-loop μ-loop
 to-numbers-requires c κs =
+    let the-pre = c .before .before .before .before .before .before .pre in
     let a = c .before .before .before .before .before .before .args in
-    let l = placed (a .target) (a .w) (c .before .before .before .loop .e) (c .before .before .before .before .before .before .pre .0 .0) (a .mode) in
+    let l = placed (a .target) (a .w) (c .before .before .before .loop .e) (the-pre .0 .0) (a .mode) in
     let e = c .before .place .ensures in
     search needs
 
@@ -53,7 +56,8 @@ loop-less c = search needs
 
 loop-again : tie.Need-loop-again Inv-loop μ-loop
 loop-again c =
-    let i = c .before .before .before .before .before .before .loop .inv in
+    let the-loop = c .before .before .before .before .before .before .loop in
+    let i = the-loop .inv in
     (search needs, (search needs, widened-join _ _ _ _ _ (i .0) (search needs) (i .1 .1) (widened-place _ _ _ _ _ _ _ (c .before .before .before .before .place .ensures) (c .before .before .to-numbers .ensures))))
 
 same-length : tie.Need-same-length Inv-loop μ-loop

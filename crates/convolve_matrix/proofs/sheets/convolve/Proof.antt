@@ -27,10 +27,12 @@ same-length-2 c = search needs
 
 returns : tie.Need-returns
 returns c =
+    let the-copy = c .before .before .before .before .before .before .before .before .before .before .before .copy in
+    let the-convolve-into = c .before .before .before .before .before .before .convolve-into in
     let p = c .before .before .before .before .before .before .before .before .before .before .before .before .before .before .before .before .before .pre in
     let a = c .before .before .before .before .before .before .before .before .before .before .before .before .before .before .before .before .before .args in
-    let copied = c .before .before .before .before .before .before .before .before .before .before .before .copy .ensures ∙ copied-all _ _ (p .1 .1 ∙ sym (p .1 .2)) in
-    (c .before .before .before .before .before .before .convolve-into .ensures ∙ ap (λ (s : List ℕ). convolvedBy (a .matrix) (a .kernel .now) (a .w) (a .h) s) copied, c .before .before .clear .ensures ∙ ap zeros (ap length copied ∙ (p .1 .1 ∙ sym (p .1 .2))))
+    let copied = the-copy .ensures ∙ copied-all _ _ (p .1 .1 ∙ sym (p .1 .2)) in
+    (the-convolve-into .ensures ∙ ap (λ (s : List ℕ). convolvedBy (a .matrix) (a .kernel .now) (a .w) (a .h) s) copied, c .before .before .clear .ensures ∙ ap zeros (ap length copied ∙ (p .1 .1 ∙ sym (p .1 .2))))
 
 pub convolve-spec : {M : Type 1} → statement M
 convolve-spec =

@@ -33,11 +33,13 @@ mul-finish-row-2 c =
 
 finish-row-requires : tie.Need-finish-row-requires
 finish-row-requires c κs =
+    let the-clear = c .before .before .before .before .before .before .before .before .before .before .before .clear in
+    let the-add-rows = c .before .before .before .before .before .before .add-rows in
     let a = c .before .before .before .before .before .before .before .before .before .before .before .before .before .before .before .before .before .before .args in
     let p = c .before .before .before .before .before .before .before .before .before .before .before .before .before .before .before .before .before .before .pre in
     let l = line-inside (a .w) (a .h) (a .y) (p .0 .1) in
-    let s = c .before .before .before .before .before .before .before .before .before .before .before .clear .ensures .same in
-    let t = c .before .before .before .before .before .before .add-rows .ensures .same in
+    let s = the-clear .ensures .same in
+    let t = the-add-rows .ensures .same in
     let wide = p .1 .0 .0 .wide-most in
     let src = p .1 .0 .1 in
     let dest = p .1 .0 .2 in
@@ -54,7 +56,10 @@ same-length-3 : tie.Need-same-length-3
 same-length-3 c = search needs
 
 returns : tie.Need-returns
-returns c = row-finished _ _ _ _ _ _ _ _ _ (c .before .before .before .before .before .before .before .before .before .before .before .before .before .before .clear .ensures) (c .before .before .before .before .before .before .before .before .before .add-rows .ensures) (c .before .before .finish-row .ensures)
+returns c =
+    let the-clear = c .before .before .before .before .before .before .before .before .before .before .before .before .before .before .clear in
+    let the-add-rows = c .before .before .before .before .before .before .before .before .before .add-rows in
+    row-finished _ _ _ _ _ _ _ _ _ (the-clear .ensures) (the-add-rows .ensures) (c .before .before .finish-row .ensures)
 
 pub convolve-row-spec : {M : Type 1} → statement M
 convolve-row-spec =

@@ -38,11 +38,14 @@ loop-less c = search needs
 
 loop-again : tie.Need-loop-again Inv-loop μ-loop
 loop-again c =
+    let the-loop = c .before .before .before .before .before .before .before .before .before .before .before .loop in
+    let the-loop-test = c .before .before .before .before .before .before .before .before .before .before .loop-test in
+    let the-convolve-row = c .before .before .before .before .before .before .convolve-row in
     let p = c .before .before .before .before .before .before .before .before .before .before .before .before .before .before .before .before .before .pre in
-    let i = c .before .before .before .before .before .before .before .before .before .before .before .loop .inv in
+    let i = the-loop .inv in
     let r = i .1 .0 in
     let s = i .1 .1 .0 in
-    (search needs, (search needs, (search needs, sheet-row _ _ (p .1 .0 .2) _ (c .before .before .before .before .before .before .before .before .before .before .loop-test .taken) (i .1 .1 .1) (c .before .before .before .before .before .before .convolve-row .ensures))))
+    (search needs, (search needs, (search needs, sheet-row _ _ (p .1 .0 .2) _ (the-loop-test .taken) (i .1 .1 .1) (the-convolve-row .ensures))))
 
 same-length : tie.Need-same-length Inv-loop μ-loop
 same-length c = search needs
@@ -56,9 +59,10 @@ same-length-3 c = search needs
 returns : tie.Need-returns Inv-loop μ-loop
 unfolding convolvedBy
 returns c =
+    let the-args = c .before .before .before .before .before .before .before .args in
     let p = c .before .before .before .before .before .before .before .pre in
     let m = c .before .loop .inv .1 .1 .1 in
-    let z : c .before .loop .y ≡ c .before .before .before .before .before .before .before .args .h = omega arith in
+    let z : c .before .loop .y ≡ the-args .h = omega arith in
     sheet-filled _ _ (p .1 .0 .2) (rw z at m)
 
 pub convolve-rows-spec : {M : Type 1} → statement M

@@ -80,18 +80,20 @@ loop-less c = search needs
 
 loop-again : tie.Need-loop-again Inv-loop μ-loop
 loop-again c =
-    let i = c .before .before .before .before .before .before .before .before .before .before .before .loop .inv in
+    let the-loop = c .before .before .before .before .before .before .before .before .before .before .before .loop in
+    let i = the-loop .inv in
     let a = c .before .before .before .before .before .before .before .before .before .before .before .before .before .before .before .args in
     let s = i .1 .1 .same in
-    (search needs, (search needs, pixel-stored (i .1 .1) (search needs) (c .before .before .put-premultiplied .ensures) (pixel-finished (a .matrix) (a .sums .now) (a .src .now) (a .first) (c .before .before .before .before .before .before .before .before .before .before .before .loop .k) (i .1 .0) (c .before .before .before .before .finished .ensures))))
+    (search needs, (search needs, pixel-stored (i .1 .1) (search needs) (c .before .before .put-premultiplied .ensures) (pixel-finished (a .matrix) (a .sums .now) (a .src .now) (a .first) (the-loop .k) (i .1 .0) (c .before .before .before .before .finished .ensures))))
 
 same-length : tie.Need-same-length Inv-loop μ-loop
 same-length c = search needs
 
 returns : tie.Need-returns Inv-loop μ-loop
 returns c =
+    let the-args = c .before .before .before .before .before .args in
     let m = c .before .loop .inv .1 .1 in
-    let z : c .before .loop .k ≡ 4 * c .before .before .before .before .before .args .w = omega arith in
+    let z : c .before .loop .k ≡ 4 * the-args .w = omega arith in
     rw z at m
 
 pub finish-row-spec : {M : Type 1} → statement M

@@ -30,26 +30,42 @@ add-at : tie.Need-add-at
 add-at c = search needs
 
 mul-at : tie.Need-mul-at
-mul-at c = record { fits = index-few (c .before .before .before .before .before .args .width) (c .before .before .before .before .before .args .height) (pixelOf (c .before .before .steps2 .result)) (pixelOf (c .before .before .before .steps .result)) (c .before .before .before .before .before .pre .0 .0 .area) (pixel-inside (c .before .before .before .before .before .args .src .now) (c .before .before .before .before .before .args .width) (c .before .before .before .before .before .args .height) (roundTo 31 (c .before .before .before .before .before .args .x)) (roundTo 31 (c .before .before .before .before .before .args .y)) (c .before .before .before .steps .result) (c .before .before .steps2 .result) (c .before .before .before .before .before .pre .0 .0 .wide-most) (c .before .before .before .before .before .pre .0 .0 .high-most) (c .before .before .before .steps .ensures) (c .before .before .steps2 .ensures) (c .before .if1 .taken) (c .if2 .taken)) .0 }
+mul-at c =
+    let the-args = c .before .before .before .before .before .args in
+    let the-pre = c .before .before .before .before .before .pre in
+    record { fits = index-few (the-args .width) (the-args .height) (pixelOf (c .before .before .steps2 .result)) (pixelOf (c .before .before .before .steps .result)) (the-pre .0 .0 .area) (pixel-inside (the-args .src .now) (the-args .width) (the-args .height) (roundTo 31 (the-args .x)) (roundTo 31 (the-args .y)) (c .before .before .before .steps .result) (c .before .before .steps2 .result) (the-pre .0 .0 .wide-most) (the-pre .0 .0 .high-most) (c .before .before .before .steps .ensures) (c .before .before .steps2 .ensures) (c .before .if1 .taken) (c .if2 .taken)) .0 }
 
 add-at-2 : tie.Need-add-at-2
 add-at-2 c = search needs
 
 add-at-3 : tie.Need-add-at-3
-add-at-3 c = record { fits = index-few (c .before .before .before .before .before .args .width) (c .before .before .before .before .before .args .height) (pixelOf (c .before .before .steps2 .result)) (pixelOf (c .before .before .before .steps .result)) (c .before .before .before .before .before .pre .0 .0 .area) (pixel-inside (c .before .before .before .before .before .args .src .now) (c .before .before .before .before .before .args .width) (c .before .before .before .before .before .args .height) (roundTo 31 (c .before .before .before .before .before .args .x)) (roundTo 31 (c .before .before .before .before .before .args .y)) (c .before .before .before .steps .result) (c .before .before .steps2 .result) (c .before .before .before .before .before .pre .0 .0 .wide-most) (c .before .before .before .before .before .pre .0 .0 .high-most) (c .before .before .before .steps .ensures) (c .before .before .steps2 .ensures) (c .before .if1 .taken) (c .if2 .taken)) .1 }
+add-at-3 c =
+    let the-args = c .before .before .before .before .before .args in
+    let the-pre = c .before .before .before .before .before .pre in
+    record { fits = index-few (the-args .width) (the-args .height) (pixelOf (c .before .before .steps2 .result)) (pixelOf (c .before .before .before .steps .result)) (the-pre .0 .0 .area) (pixel-inside (the-args .src .now) (the-args .width) (the-args .height) (roundTo 31 (the-args .x)) (roundTo 31 (the-args .y)) (c .before .before .before .steps .result) (c .before .before .steps2 .result) (the-pre .0 .0 .wide-most) (the-pre .0 .0 .high-most) (c .before .before .before .steps .ensures) (c .before .before .steps2 .ensures) (c .before .if1 .taken) (c .if2 .taken)) .1 }
 
 mul-at-2 : tie.Need-mul-at-2
-mul-at-2 c = record { fits = index-few (c .before .before .before .before .before .args .width) (c .before .before .before .before .before .args .height) (pixelOf (c .before .before .steps2 .result)) (pixelOf (c .before .before .before .steps .result)) (c .before .before .before .before .before .pre .0 .0 .area) (pixel-inside (c .before .before .before .before .before .args .src .now) (c .before .before .before .before .before .args .width) (c .before .before .before .before .before .args .height) (roundTo 31 (c .before .before .before .before .before .args .x)) (roundTo 31 (c .before .before .before .before .before .args .y)) (c .before .before .before .steps .result) (c .before .before .steps2 .result) (c .before .before .before .before .before .pre .0 .0 .wide-most) (c .before .before .before .before .before .pre .0 .0 .high-most) (c .before .before .before .steps .ensures) (c .before .before .steps2 .ensures) (c .before .if1 .taken) (c .if2 .taken)) .2 }
+mul-at-2 c =
+    let the-args = c .before .before .before .before .before .args in
+    let the-pre = c .before .before .before .before .before .pre in
+    record { fits = index-few (the-args .width) (the-args .height) (pixelOf (c .before .before .steps2 .result)) (pixelOf (c .before .before .before .steps .result)) (the-pre .0 .0 .area) (pixel-inside (the-args .src .now) (the-args .width) (the-args .height) (roundTo 31 (the-args .x)) (roundTo 31 (the-args .y)) (c .before .before .before .steps .result) (c .before .before .steps2 .result) (the-pre .0 .0 .wide-most) (the-pre .0 .0 .high-most) (c .before .before .before .steps .ensures) (c .before .before .steps2 .ensures) (c .before .if1 .taken) (c .if2 .taken)) .2 }
 
 pixel-at-requires : tie.Need-pixel-at-requires
-pixel-at-requires c κs = rw (c .before .before .before .before .before .pre .0 .1) (pixel-inside (c .before .before .before .before .before .args .src .now) (c .before .before .before .before .before .args .width) (c .before .before .before .before .before .args .height) (roundTo 31 (c .before .before .before .before .before .args .x)) (roundTo 31 (c .before .before .before .before .before .args .y)) (c .before .before .before .steps .result) (c .before .before .steps2 .result) (c .before .before .before .before .before .pre .0 .0 .wide-most) (c .before .before .before .before .before .pre .0 .0 .high-most) (c .before .before .before .steps .ensures) (c .before .before .steps2 .ensures) (c .before .if1 .taken) (c .if2 .taken))
+pixel-at-requires c κs =
+    let the-pre = c .before .before .before .before .before .pre in
+    let the-args = c .before .before .before .before .before .args in
+    rw (the-pre .0 .1) (pixel-inside (the-args .src .now) (the-args .width) (the-args .height) (roundTo 31 (the-args .x)) (roundTo 31 (the-args .y)) (c .before .before .before .steps .result) (c .before .before .steps2 .result) (the-pre .0 .0 .wide-most) (the-pre .0 .0 .high-most) (c .before .before .before .steps .ensures) (c .before .before .steps2 .ensures) (c .before .if1 .taken) (c .if2 .taken))
 
 returns : tie.Need-returns
 returns c =
-    moved-in (c .before .before .before .before .before .before .args .src .now) (c .before .before .before .before .before .before .args .width) (c .before .before .before .before .before .before .args .height) (roundTo 31 (c .before .before .before .before .before .before .args .x)) (roundTo 31 (c .before .before .before .before .before .before .args .y)) (c .before .before .before .before .steps .result) (c .before .before .before .steps2 .result) (c .pixel-at .result .0) (c .before .before .before .before .before .before .pre .0 .0 .wide-most) (c .before .before .before .before .before .before .pre .0 .0 .high-most) (c .before .before .before .before .steps .ensures) (c .before .before .before .steps2 .ensures) (c .before .before .if1 .taken) (c .before .if2 .taken) (c .pixel-at .ensures)
+    let the-args = c .before .before .before .before .before .before .args in
+    let the-pre = c .before .before .before .before .before .before .pre in
+    moved-in (the-args .src .now) (the-args .width) (the-args .height) (roundTo 31 (the-args .x)) (roundTo 31 (the-args .y)) (c .before .before .before .before .steps .result) (c .before .before .before .steps2 .result) (c .pixel-at .result .0) (the-pre .0 .0 .wide-most) (the-pre .0 .0 .high-most) (c .before .before .before .before .steps .ensures) (c .before .before .before .steps2 .ensures) (c .before .before .if1 .taken) (c .before .if2 .taken) (c .pixel-at .ensures)
 
 returns-2 : tie.Need-returns-2
-returns-2 c = λ d few. no-channel d ∙ moved-below (c .before .before .before .before .before .args .src .now) (c .before .before .before .before .before .args .width) (c .before .before .before .before .before .args .height) (roundTo 31 (c .before .before .before .before .before .args .x)) (roundTo 31 (c .before .before .before .before .before .args .y)) (c .before .before .steps2 .result) d (c .before .before .steps2 .ensures) (c .if2 .left)
+returns-2 c =
+    let the-args = c .before .before .before .before .before .args in
+    λ d few. no-channel d ∙ moved-below (the-args .src .now) (the-args .width) (the-args .height) (roundTo 31 (the-args .x)) (roundTo 31 (the-args .y)) (c .before .before .steps2 .result) d (c .before .before .steps2 .ensures) (c .if2 .left)
 
 returns-3 : tie.Need-returns-3
 returns-3 c = λ d few. no-channel d ∙ moved-past (c .before .before .before .before .args .src .now) (c .before .before .before .before .args .width) (c .before .before .before .before .args .height) (roundTo 31 (c .before .before .before .before .args .x)) (roundTo 31 (c .before .before .before .before .args .y)) (c .before .before .steps .result) d (c .before .before .steps .ensures) (c .if1 .left)

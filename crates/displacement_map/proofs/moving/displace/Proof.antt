@@ -43,42 +43,71 @@ shifts-requires-2 : tie.Need-shifts-requires-2 Inv-loop μ-loop
 shifts-requires-2 c κs = tt
 
 loop-holds : tie.Need-loop-holds Inv-loop μ-loop
-loop-holds c = (paint-start _ _ (whole-pixels _ (c .before .before .before .before .before .args .width) (c .before .before .before .before .before .args .height) (c .before .before .before .before .before .pre .1 .1 .1)), start (c .before .before .before .before .before .args .width), c .before .before .before .before .before .pre .0 .0 .wide)
+loop-holds c =
+    let the-args = c .before .before .before .before .before .args in
+    let the-pre = c .before .before .before .before .before .pre in
+    (paint-start _ _ (whole-pixels _ (the-args .width) (the-args .height) (the-pre .1 .1 .1)), start (the-args .width), the-pre .0 .0 .wide)
 
 straight-at-requires : tie.Need-straight-at-requires Inv-loop μ-loop
-straight-at-requires c κs = let z = paint-room (c .before .loop .inv .0) (c .loop-test .taken) in let s = c .before .loop .inv .0 .filling .same in let e = c .before .before .before .before .before .before .before .pre .1 .1 .0 in let f = c .before .before .before .before .before .before .before .pre .1 .1 .1 in omega arith
+straight-at-requires c κs =
+    let the-pre = c .before .before .before .before .before .before .before .pre in
+    let z = paint-room (c .before .loop .inv .0) (c .loop-test .taken) in let s = c .before .loop .inv .0 .filling .same in let e = the-pre .1 .1 .0 in let f = the-pre .1 .1 .1 in omega arith
 
 place-requires : tie.Need-place-requires Inv-loop μ-loop
-place-requires c κs = lt-of-lt-of-le (c .before .before .before .loop .inv .2) (c .before .before .before .before .before .before .before .before .before .pre .0 .0 .wide-most)
+place-requires c κs =
+    let the-pre = c .before .before .before .before .before .before .before .before .before .pre in
+    lt-of-lt-of-le (c .before .before .before .loop .inv .2) (the-pre .0 .0 .wide-most)
 
 place-requires-2 : tie.Need-place-requires-2 Inv-loop μ-loop
-place-requires-2 c κs = lt-of-lt-of-le (in-row (c .before .before .before .before .before .before .before .before .before .before .before .args .width) (c .before .before .before .before .before .before .before .before .before .before .before .args .height) (c .before .before .before .before .before .loop .to .x) (c .before .before .before .before .before .loop .to .y) (c .before .before .before .before .before .loop .inv .0) (c .before .before .before .before .loop-test .taken) (c .before .before .before .before .before .before .before .before .before .before .before .pre .1 .1 .1) (c .before .before .before .before .before .loop .inv .1)) (c .before .before .before .before .before .before .before .before .before .before .before .pre .0 .0 .high-most)
+place-requires-2 c κs =
+    let the-args = c .before .before .before .before .before .before .before .before .before .before .before .args in
+    let the-loop = c .before .before .before .before .before .loop in
+    let the-pre = c .before .before .before .before .before .before .before .before .before .before .before .pre in
+    lt-of-lt-of-le (in-row (the-args .width) (the-args .height) (the-loop .to .x) (the-loop .to .y) (the-loop .inv .0) (c .before .before .before .before .loop-test .taken) (the-pre .1 .1 .1) (the-loop .inv .1)) (the-pre .0 .0 .high-most)
 
 moved-requires : tie.Need-moved-requires Inv-loop μ-loop
 moved-requires c κs =
-    let scales = accepted (c .before .before .before .before .before .before .before .before .before .before .before .before .before .args .sx) (c .before .before .before .before .before .before .before .before .before .before .before .before .before .args .sy) (c .before .before .before .before .before .before .before .before .before .before .before .before .before .args .scale) (c .before .before .before .before .before .before .before .before .before .before .before .before .before .pre .0 .1) in
-    let x = sent-to (c .before .before .before .before .before .before .before .before .before .before .before .before .before .args .x-channel) (c .before .before .before .before .before .before .before .before .before .before .before .before .before .args .map .now) (c .before .before .before .before .before .before .before .loop .at) _ (c .before .before .before .before .before .straight-at .ensures) (c .before .before .before .before .before .before .before .loop .inv .0 .aligned) (c .before .before .before .before .before .before .before .before .before .before .before .before .before .args .sx) (c .before .before .before .before .before .before .before .before .before .before .before .before .before .args .scale) (c .before .before .before .before .before .before .before .before .before .shifts .result) (c .before .before .before .before .before .before .before .loop .to .x) (c .before .before .before .place .result) (c .before .before .before .before .before .before .before .before .before .shifts .ensures) (c .before .before .before .place .ensures) 0 (lit< tt) in
-    let y = sent-to (c .before .before .before .before .before .before .before .before .before .before .before .before .before .args .y-channel) (c .before .before .before .before .before .before .before .before .before .before .before .before .before .args .map .now) (c .before .before .before .before .before .before .before .loop .at) _ (c .before .before .before .before .before .straight-at .ensures) (c .before .before .before .before .before .before .before .loop .inv .0 .aligned) (c .before .before .before .before .before .before .before .before .before .before .before .before .before .args .sy) (c .before .before .before .before .before .before .before .before .before .before .before .before .before .args .scale) (c .before .before .before .before .before .before .before .before .shifts2 .result) (c .before .before .before .before .before .before .before .loop .to .y) (c .before .place2 .result) (c .before .before .before .before .before .before .before .before .shifts2 .ensures) (c .before .place2 .ensures) 0 (lit< tt) in (
-      (c .before .before .before .before .before .before .before .before .before .before .before .before .before .pre .0 .0, c .before .before .before .before .before .before .before .before .before .before .before .before .before .pre .1 .0),
+    let the-args = c .before .before .before .before .before .before .before .before .before .before .before .before .before .args in
+    let the-pre = c .before .before .before .before .before .before .before .before .before .before .before .before .before .pre in
+    let the-loop = c .before .before .before .before .before .before .before .loop in
+    let the-straight-at = c .before .before .before .before .before .straight-at in
+    let the-shifts = c .before .before .before .before .before .before .before .before .before .shifts in
+    let the-shifts2 = c .before .before .before .before .before .before .before .before .shifts2 in
+    let the-loop-test = c .before .before .before .before .before .before .loop-test in
+    let scales = accepted (the-args .sx) (the-args .sy) (the-args .scale) (the-pre .0 .1) in
+    let x = sent-to (the-args .x-channel) (the-args .map .now) (the-loop .at) _ (the-straight-at .ensures) (the-loop .inv .0 .aligned) (the-args .sx) (the-args .scale) (the-shifts .result) (the-loop .to .x) (c .before .before .before .place .result) (the-shifts .ensures) (c .before .before .before .place .ensures) 0 (lit< tt) in
+    let y = sent-to (the-args .y-channel) (the-args .map .now) (the-loop .at) _ (the-straight-at .ensures) (the-loop .inv .0 .aligned) (the-args .sy) (the-args .scale) (the-shifts2 .result) (the-loop .to .y) (c .before .place2 .result) (the-shifts2 .ensures) (c .before .place2 .ensures) 0 (lit< tt) in (
+      (the-pre .0 .0, the-pre .1 .0),
       (
-        subst (λ (z : Float). Small z) (sym x) (place-small (c .before .before .before .before .before .before .before .loop .to .x) _ (c .before .before .before .before .before .before .before .before .before .before .before .before .before .args .sx) (c .before .before .before .before .before .before .before .before .before .before .before .before .before .args .scale) (lt-of-lt-of-le (c .before .before .before .before .before .before .before .loop .inv .2) (c .before .before .before .before .before .before .before .before .before .before .before .before .before .pre .0 .0 .wide-most)) (byte-few (c .before .before .before .before .before .before .before .before .before .before .before .before .before .args .x-channel) (c .before .before .before .before .before .before .before .before .before .before .before .before .before .args .map .now) (c .before .before .before .before .before .before .before .loop .at + 0)) (scales .column) (scales .map)),
-        subst (λ (z : Float). Small z) (sym y) (place-small (c .before .before .before .before .before .before .before .loop .to .y) _ (c .before .before .before .before .before .before .before .before .before .before .before .before .before .args .sy) (c .before .before .before .before .before .before .before .before .before .before .before .before .before .args .scale) (lt-of-lt-of-le (in-row (c .before .before .before .before .before .before .before .before .before .before .before .before .before .args .width) (c .before .before .before .before .before .before .before .before .before .before .before .before .before .args .height) (c .before .before .before .before .before .before .before .loop .to .x) (c .before .before .before .before .before .before .before .loop .to .y) (c .before .before .before .before .before .before .before .loop .inv .0) (c .before .before .before .before .before .before .loop-test .taken) (c .before .before .before .before .before .before .before .before .before .before .before .before .before .pre .1 .1 .1) (c .before .before .before .before .before .before .before .loop .inv .1)) (c .before .before .before .before .before .before .before .before .before .before .before .before .before .pre .0 .0 .high-most)) (byte-few (c .before .before .before .before .before .before .before .before .before .before .before .before .before .args .y-channel) (c .before .before .before .before .before .before .before .before .before .before .before .before .before .args .map .now) (c .before .before .before .before .before .before .before .loop .at + 0)) (scales .row) (scales .map)),
+        subst (λ (z : Float). Small z) (sym x) (place-small (the-loop .to .x) _ (the-args .sx) (the-args .scale) (lt-of-lt-of-le (the-loop .inv .2) (the-pre .0 .0 .wide-most)) (byte-few (the-args .x-channel) (the-args .map .now) (the-loop .at + 0)) (scales .column) (scales .map)),
+        subst (λ (z : Float). Small z) (sym y) (place-small (the-loop .to .y) _ (the-args .sy) (the-args .scale) (lt-of-lt-of-le (in-row (the-args .width) (the-args .height) (the-loop .to .x) (the-loop .to .y) (the-loop .inv .0) (the-loop-test .taken) (the-pre .1 .1 .1) (the-loop .inv .1)) (the-pre .0 .0 .high-most)) (byte-few (the-args .y-channel) (the-args .map .now) (the-loop .at + 0)) (scales .row) (scales .map)),
       ),
     )
 
 put-pixel-requires : tie.Need-put-pixel-requires Inv-loop μ-loop
-put-pixel-requires c κs = paint-room (c .before .before .before .before .before .before .before .before .loop .inv .0) (c .before .before .before .before .before .before .before .loop-test .taken)
+put-pixel-requires c κs =
+    let the-loop = c .before .before .before .before .before .before .before .before .loop in
+    let the-loop-test = c .before .before .before .before .before .before .before .loop-test in
+    paint-room (the-loop .inv .0) (the-loop-test .taken)
 
 next-requires : tie.Need-next-requires Inv-loop μ-loop
-next-requires c κs = (c .before .before .before .before .before .before .before .before .before .before .before .before .before .before .before .before .before .pre .0 .0, c .before .before .before .before .before .before .before .before .before .before .before .loop .inv .2, in-row (c .before .before .before .before .before .before .before .before .before .before .before .before .before .before .before .before .before .args .width) (c .before .before .before .before .before .before .before .before .before .before .before .before .before .before .before .before .before .args .height) (c .before .before .before .before .before .before .before .before .before .before .before .loop .to .x) (c .before .before .before .before .before .before .before .before .before .before .before .loop .to .y) (c .before .before .before .before .before .before .before .before .before .before .before .loop .inv .0) (c .before .before .before .before .before .before .before .before .before .before .loop-test .taken) (c .before .before .before .before .before .before .before .before .before .before .before .before .before .before .before .before .before .pre .1 .1 .1) (c .before .before .before .before .before .before .before .before .before .before .before .loop .inv .1))
+next-requires c κs =
+    let the-pre = c .before .before .before .before .before .before .before .before .before .before .before .before .before .before .before .before .before .pre in
+    let the-loop = c .before .before .before .before .before .before .before .before .before .before .before .loop in
+    let the-args = c .before .before .before .before .before .before .before .before .before .before .before .before .before .before .before .before .before .args in
+    let the-loop-test = c .before .before .before .before .before .before .before .before .before .before .loop-test in
+    (the-pre .0 .0, the-loop .inv .2, in-row (the-args .width) (the-args .height) (the-loop .to .x) (the-loop .to .y) (the-loop .inv .0) (the-loop-test .taken) (the-pre .1 .1 .1) (the-loop .inv .1))
 
 add-at : tie.Need-add-at Inv-loop μ-loop
 add-at c =
-    let z = paint-room (c .before .before .before .before .before .before .before .before .before .before .before .before .loop .inv .0) (c .before .before .before .before .before .before .before .before .before .before .before .loop-test .taken) in
-    let s = c .before .before .before .before .before .before .before .before .before .before .before .before .loop .inv .0 .filling .same in
-    let e = c .before .before .before .before .before .before .before .before .before .before .before .before .before .before .before .before .before .before .pre .1 .1 .1 in
-    let a = c .before .before .before .before .before .before .before .before .before .before .before .before .before .before .before .before .before .before .pre .0 .0 .area in
-    let few : c .before .before .before .before .before .before .before .before .before .before .before .before .loop .at + 4 ≤ 16777220 = omega arith in
+    let the-loop = c .before .before .before .before .before .before .before .before .before .before .before .before .loop in
+    let the-loop-test = c .before .before .before .before .before .before .before .before .before .before .before .loop-test in
+    let the-pre = c .before .before .before .before .before .before .before .before .before .before .before .before .before .before .before .before .before .before .pre in
+    let z = paint-room (the-loop .inv .0) (the-loop-test .taken) in
+    let s = the-loop .inv .0 .filling .same in
+    let e = the-pre .1 .1 .1 in
+    let a = the-pre .0 .0 .area in
+    let few : the-loop .at + 4 ≤ 16777220 = omega arith in
     search needs
 
 loop-less : tie.Need-loop-less Inv-loop μ-loop
@@ -86,12 +115,20 @@ loop-less c = search needs
 
 loop-again : tie.Need-loop-again Inv-loop μ-loop
 loop-again c =
-    let inv = c .before .before .before .before .before .before .before .before .before .before .before .before .loop .inv in
+    let the-loop = c .before .before .before .before .before .before .before .before .before .before .before .before .loop in
+    let the-loop-test = c .before .before .before .before .before .before .before .before .before .before .before .loop-test in
+    let the-args = c .before .before .before .before .before .before .before .before .before .before .before .before .before .before .before .before .before .before .args in
+    let the-place = c .before .before .before .before .before .before .before .before .place in
+    let the-place2 = c .before .before .before .before .before .before .place2 in
+    let the-straight-at = c .before .before .before .before .before .before .before .before .before .before .straight-at in
+    let the-shifts = c .before .before .before .before .before .before .before .before .before .before .before .before .before .before .shifts in
+    let the-shifts2 = c .before .before .before .before .before .before .before .before .before .before .before .before .before .shifts2 in
+    let inv = the-loop .inv in
     let next = c .next .ensures in (
-      paint-pixel (inv .0) (c .before .before .before .before .before .before .before .before .before .before .before .loop-test .taken) (c .before .before .before .put-pixel .ensures)
-          (displaced-pixel (c .before .before .before .before .before .before .before .before .before .before .before .before .before .before .before .before .before .before .args .x-channel) (c .before .before .before .before .before .before .before .before .before .before .before .before .before .before .before .before .before .before .args .y-channel) (c .before .before .before .before .before .before .before .before .before .before .before .before .before .before .before .before .before .before .args .sx) (c .before .before .before .before .before .before .before .before .before .before .before .before .before .before .before .before .before .before .args .sy) (c .before .before .before .before .before .before .before .before .before .before .before .before .before .before .before .before .before .before .args .scale) (c .before .before .before .before .before .before .before .before .before .before .before .before .before .before .before .before .before .before .args .width) (c .before .before .before .before .before .before .before .before .before .before .before .before .before .before .before .before .before .before .args .height) (c .before .before .before .before .before .before .before .before .before .before .before .before .before .before .before .before .before .before .args .src .now) (c .before .before .before .before .before .before .before .before .before .before .before .before .before .before .before .before .before .before .args .map .now) (c .before .before .before .before .before .before .before .before .before .before .before .before .loop .to .x) (c .before .before .before .before .before .before .before .before .before .before .before .before .loop .to .y) (c .before .before .before .before .before .before .before .before .before .before .before .before .loop .at) (c .before .before .before .before .moved .result .0) (c .before .before .before .before .before .before .before .before .place .result) (c .before .before .before .before .before .before .place2 .result) (inv .2) (inv .1) (c .before .before .before .before .moved .ensures)
-          (sent-to (c .before .before .before .before .before .before .before .before .before .before .before .before .before .before .before .before .before .before .args .x-channel) (c .before .before .before .before .before .before .before .before .before .before .before .before .before .before .before .before .before .before .args .map .now) (c .before .before .before .before .before .before .before .before .before .before .before .before .loop .at) _ (c .before .before .before .before .before .before .before .before .before .before .straight-at .ensures) (c .before .before .before .before .before .before .before .before .before .before .before .before .loop .inv .0 .aligned) (c .before .before .before .before .before .before .before .before .before .before .before .before .before .before .before .before .before .before .args .sx) (c .before .before .before .before .before .before .before .before .before .before .before .before .before .before .before .before .before .before .args .scale) (c .before .before .before .before .before .before .before .before .before .before .before .before .before .before .shifts .result) (c .before .before .before .before .before .before .before .before .before .before .before .before .loop .to .x) (c .before .before .before .before .before .before .before .before .place .result) (c .before .before .before .before .before .before .before .before .before .before .before .before .before .before .shifts .ensures) (c .before .before .before .before .before .before .before .before .place .ensures))
-          (sent-to (c .before .before .before .before .before .before .before .before .before .before .before .before .before .before .before .before .before .before .args .y-channel) (c .before .before .before .before .before .before .before .before .before .before .before .before .before .before .before .before .before .before .args .map .now) (c .before .before .before .before .before .before .before .before .before .before .before .before .loop .at) _ (c .before .before .before .before .before .before .before .before .before .before .straight-at .ensures) (c .before .before .before .before .before .before .before .before .before .before .before .before .loop .inv .0 .aligned) (c .before .before .before .before .before .before .before .before .before .before .before .before .before .before .before .before .before .before .args .sy) (c .before .before .before .before .before .before .before .before .before .before .before .before .before .before .before .before .before .before .args .scale) (c .before .before .before .before .before .before .before .before .before .before .before .before .before .shifts2 .result) (c .before .before .before .before .before .before .before .before .before .before .before .before .loop .to .y) (c .before .before .before .before .before .before .place2 .result) (c .before .before .before .before .before .before .before .before .before .before .before .before .before .shifts2 .ensures) (c .before .before .before .before .before .before .place2 .ensures))),
+      paint-pixel (inv .0) (the-loop-test .taken) (c .before .before .before .put-pixel .ensures)
+          (displaced-pixel (the-args .x-channel) (the-args .y-channel) (the-args .sx) (the-args .sy) (the-args .scale) (the-args .width) (the-args .height) (the-args .src .now) (the-args .map .now) (the-loop .to .x) (the-loop .to .y) (the-loop .at) (c .before .before .before .before .moved .result .0) (the-place .result) (the-place2 .result) (inv .2) (inv .1) (c .before .before .before .before .moved .ensures)
+          (sent-to (the-args .x-channel) (the-args .map .now) (the-loop .at) _ (the-straight-at .ensures) (the-loop .inv .0 .aligned) (the-args .sx) (the-args .scale) (the-shifts .result) (the-loop .to .x) (the-place .result) (the-shifts .ensures) (the-place .ensures))
+          (sent-to (the-args .y-channel) (the-args .map .now) (the-loop .at) _ (the-straight-at .ensures) (the-loop .inv .0 .aligned) (the-args .sy) (the-args .scale) (the-shifts2 .result) (the-loop .to .y) (the-place2 .result) (the-shifts2 .ensures) (the-place2 .ensures))),
       further _ _ _ (inv .1) (next .1),
       next .0,
     )
@@ -101,7 +138,9 @@ same-length c = search needs
 
 returns : tie.Need-returns Inv-loop μ-loop
 unfolding displaced
-returns c = paint-done (c .before .loop .inv .0) (c .loop-test .left) (c .before .before .before .before .before .before .before .pre .1 .1 .1)
+returns c =
+    let the-pre = c .before .before .before .before .before .before .before .pre in
+    paint-done (c .before .loop .inv .0) (c .loop-test .left) (the-pre .1 .1 .1)
 
 pub displace-spec : {M : Type 1} → statement M
 displace-spec =
