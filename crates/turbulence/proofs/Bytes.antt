@@ -1,22 +1,26 @@
--- The bytes of a pixel are the definition's, and the spots run through the sheet.
-use Prim.Native.Nat.{ℕ, _+_, _*_, _/_, _%_, _≤_, _<_}
-use mathlib.Core.Path.{_≡_, _∙_}
-use mathlib.Core.Bool.{Bool, true, false, _&&_}
+-- The bytes of a pixel are the definition's, and the rows fill the sheet.
+use Prim.Native.Nat.{ℕ, suc, _+_, _*_, _%_, _≤_, _<_}
+use mathlib.Core.Path.{_≡_, refl, sym, _∙_}
+use mathlib.Core.Bool.{Bool, true, false, cond, _&&_, true≢false}
 use mathlib.Core.List.{List}
-use native.Mathlib.Nat.{mul-one, mul-le-mul-left}
+use native.Mathlib.Nat.{not-suc-le-zero, mul-one, mul-assoc, mul-comm, mul-le-mul-left, mul-le-mul-right, lt-of-mul-lt-mul-right}
 use native.Mathlib.Omega.{arith}
-use lib.Ieee.{Float}
-use Rattle.sheet.specs.Tabulate.{tabulate}
-use Rattle.sheet.specs.Pixel.{channel, column, row, byteAt}
-use Rattle.sheet.proofs.Filling.{channel-of}
+use lib.Dec.{leb, leb→le}
+use lib.ListN.{length, getD}
+use lib.Ieee.{Float, neg}
+use Rattle.floats.proofs.Tests.{T-true}
+use Rattle.sheet.specs.declared.Answer.the-variants.{Done}
+use Rattle.sheet.specs.Pixel.{channel, byteAt}
+use Rattle.sheet.proofs.Answers.{cond-done}
+use Rattle.sheet.proofs.Tabulated.{tabulated}
+use Rattle.sheet.proofs.Filling.{Painting, channel-of}
 use Rattle.sheet.proofs.Places.{column-of-place, row-of-place, channel-of-place}
 use Rattle.turbulence.specs.declared.Turbulence.{Turbulence}
-use Rattle.turbulence.specs.declared.draw.Spot.{Spot}
-use Rattle.turbulence.specs.Constants.{d0, d1}
+use Rattle.turbulence.specs.Constants.{d0, d1, sixteenth, d16, d4096}
 use Rattle.turbulence.specs.Noise.{summed}
 use Rattle.turbulence.specs.Tables.{selectorOf, gradientsX, gradientsY}
-use Rattle.turbulence.specs.Turbulence.{pointOn, valueBy, byteOf, drawn}
-use Rattle.turbulence.specs.inner.Spots.{At, byteBy, PixelBy}
+use Rattle.turbulence.specs.Turbulence.{bothWithin, allFinite, allInRange, turbulenceAnswer, pointOn, valueBy, byteOf, drawn}
+use Rattle.turbulence.specs.inner.Drawn.{byteBy, bytesBy, PixelBy, RowRoom, Begun}
 
 -- ---- two tests in order
 pub first-fails : (p q : Bool) → p ≡ false → false ≡ (p && q)
@@ -25,6 +29,20 @@ first-fails p q e = rw e
 pub second-decides : (p q : Bool) {r : Bool} → p ≡ true → r ≡ q → r ≡ (p && q)
 second-decides p q e f = rw e f
 
+then-true : (p q : Bool) → cond p q false ≡ true → q ≡ true
+then-true true q e = e
+then-true false q e = absurd (true≢false (sym e))
+
+-- who passes the tests has 8 octaves at most
+pub octaves-few : (t : Turbulence) → turbulenceAnswer t ≡ Done → t .«num_octaves» ≤ 8
+unfolding turbulenceAnswer allInRange
+octaves-few t e =
+    let range = cond-done (allInRange t) _ _ (cond-done (allFinite t) _ _ e .1) .0 in
+    let scales = then-true (bothWithin (neg d4096) (t .«offset_x») (t .«offset_y») d4096) _ range in
+    let frequencies = then-true (bothWithin sixteenth (t .sx) (t .sy) d16) _ scales in
+    let octaves = then-true (bothWithin d0 (t .«base_frequency_x») (t .«base_frequency_y») d16) (leb (t .«num_octaves») 8) frequencies in
+    leb→le (t .«num_octaves») 8 (T-true octaves)
+
 -- a byte of a channel's sum at a point
 module _ (t : Turbulence) (selector : List ℕ) (gx gy : List Float) (c px py : ℕ) where
   pub byte-is : {x y s : Float} {b : ℕ} → x ≡ pointOn (t .«offset_x») (t .sx) (t .«base_frequency_x») px → y ≡ pointOn (t .«offset_y») (t .sy) (t .«base_frequency_y») py
@@ -32,26 +50,44 @@ module _ (t : Turbulence) (selector : List ℕ) (gx gy : List Float) (c px py : 
   unfolding valueBy
   byte-is {x} {y} {s} {b} ex ey es eb = rw (eb, es, ex, ey)
 
--- ---- spots
-module _ (w at : ℕ) (s : Spot) (a : At w (at / 4) s) where
-  pub spot-few : 0 < w → at ≤ 16777216 → s .y < 4294967295
-  spot-few h l = let e = a .number in let f = mul-le-mul-left (s .y) h in let g = mul-one (s .y) in omega arith
+-- ---- rows
+pub none-begun : (f : ℕ → ℕ) (d : List ℕ) → Begun f 0 d
+none-begun f d = record { within = omega arith; stored = λ k h. absurd (not-suc-le-zero h) }
 
-  pub spot-next : {r : Spot} → At w (s .y * w + s .x + 1) r → At w ((at + 4) / 4) r
-  spot-next {r} b = let e = a .number in let f = b .number in record { number = let g : (at + 4) / 4 ≡ at / 4 + 1 = omega arith in omega arith; inside = b .inside }
+-- what a loop over a row starts with
+pub row-begins : {f : ℕ → ℕ} {w y i : ℕ} {d : List ℕ} → RowRoom w y i d → Begun f i d → Painting f d d i
+row-begins {f} {w} {y} {i} {d} r b =
+    let s = r .start in
+    record { filling = record { within = b .within; same = refl; stored = b .stored; untouched = λ k h. refl }; aligned = omega arith; pixels = r .pixels }
 
--- byte k by a selector and gradients
-abbrev pub bytesBy : Turbulence → List ℕ → List Float → List Float → ℕ → ℕ → ℕ
-bytesBy t selector gx gy w k = byteBy t selector gx gy (k % 4) (column w k) (row w k)
+-- there is room for one more pixel
+pub row-inside : {f : ℕ → ℕ} {w y i x k : ℕ} {d₀ d : List ℕ} → RowRoom w y i d₀ → Painting f d₀ d k → k ≡ 4 * (y * w) + 4 * x → x < w → k < length d
+row-inside {f} {w} {y} {i} {x} {k} {d₀} {d} r p e h = let s = r .start in let m = r .room in let l = p .filling .same in omega arith
+
+-- and what it leaves
+pub row-ends : {f : ℕ → ℕ} {d₀ d : List ℕ} {k : ℕ} (n : ℕ) → Painting f d₀ d k → k ≡ n → Begun f n d
+row-ends {f} {d₀} {d} {k} n r e = let s = r .filling .same in let w = r .filling .within in record { within = omega arith; stored = λ i h. r .filling .stored i (omega arith) }
+
+-- there is room for one more row
+pub next-row : (w h y i : ℕ) {d : List ℕ} → length d ≡ 4 * w * h → i ≡ 4 * (y * w) → i < length d → RowRoom w y i d
+next-row w h y i {d} e s l =
+    let pixels = mul-assoc 4 w h in
+    let turned = mul-comm w h in
+    let below : y * w < h * w = omega arith in
+    let more : suc y * w ≤ h * w = mul-le-mul-right w (lt-of-mul-lt-mul-right w below) in
+    record { start = s; room = omega arith; pixels = omega arith }
+
+-- the row's number is far from the end of a `u32`
+pub rows-few : (w y i n : ℕ) → 0 < w → i ≡ 4 * (y * w) → i < n → n ≤ 16777216 → y < 4294967295
+rows-few w y i n h e l m = let f = mul-le-mul-left y h in let g = mul-one y in omega arith
 
 module _ (t : Turbulence) (selector : List ℕ) (gx gy : List Float) (w : ℕ) where
-  pub drawn-pixel : (at : ℕ) (s : Spot) {p : ℕ} → At w (at / 4) s → at % 4 ≡ 0 → PixelBy t selector gx gy (s .x) (s .y) p → (c : ℕ) → c < 4 → channel c p ≡ bytesBy t selector gx gy w (at + c)
-  drawn-pixel at s {p} a aligned q c h =
-      let n = a .number in
-      let e : at + c ≡ byteAt w (s .x) (s .y) c = omega arith in
-      channel-of (λ d. byteBy t selector gx gy d (s .x) (s .y)) q c h
-      ∙ rw (e, column-of-place w (s .x) (s .y) c (a .inside) h, row-of-place w (s .x) (s .y) c (a .inside) h, channel-of-place w (s .x) (s .y) c (a .inside) h)
+  pub drawn-pixel : (at x y : ℕ) {p : ℕ} → at ≡ 4 * (y * w) + 4 * x → x < w → PixelBy t selector gx gy x y p → (c : ℕ) → c < 4 → channel c p ≡ bytesBy t selector gx gy w (at + c)
+  drawn-pixel at x y {p} n inside q c h =
+      let e : at + c ≡ byteAt w x y c = omega arith in
+      channel-of (λ d. byteBy t selector gx gy d x y) q c h
+      ∙ rw (e, column-of-place w x y c inside h, row-of-place w x y c inside h, channel-of-place w x y c inside h)
 
-  pub drawn-all : (h : ℕ) {d : List ℕ} → selector ≡ selectorOf (t .seed) → gx ≡ gradientsX (t .seed) → gy ≡ gradientsY (t .seed) → d ≡ tabulate (4 * w * h) (bytesBy t selector gx gy w) → d ≡ drawn t w h
+  pub drawn-all : (h n : ℕ) {d : List ℕ} → selector ≡ selectorOf (t .seed) → gx ≡ gradientsX (t .seed) → gy ≡ gradientsY (t .seed) → length d ≡ 4 * w * h → length d ≤ n → Begun (bytesBy t selector gx gy w) n d → d ≡ drawn t w h
   unfolding drawn
-  drawn-all h {d} e f g k = k ∙ rw (e, f, g)
+  drawn-all h n {d} e f g l m b = tabulated d (4 * w * h) (bytesBy t selector gx gy w) l (λ k i. b .stored k (omega arith)) ∙ rw (e, f, g)

@@ -6,9 +6,11 @@ mod Lowered
 pub mod Filled
 mod Draws
 pub mod Entries
-mod Lattice
+mod Modulo
+mod Nearest
 mod Points
 mod Octaves
+mod Settled
 mod Bytes
 pub mod Reading
 pub mod Bounded

@@ -14,6 +14,7 @@ use Rattle.floats.proofs.TowardZero.{lowest, past, inside}
 use Rattle.sheet.specs.Size.{sideLimit}
 use Rattle.turbulence.specs.Constants.{d0, d2, sixteenth, d16, d4096}
 use Rattle.turbulence.specs.Turbulence.{pointOn}
+use Rattle.turbulence.specs.inner.Rows.{doubled}
 use Rattle.turbulence.proofs.Bounded.{UpTo, AtLeast, round-up-to, add-up-to, mul-up-to, div-up-to}
 
 -- what two comparisons of a `cond` tell
@@ -111,11 +112,6 @@ module _ (offset scale frequency : Float) (ho : T (within (neg d4096) offset d40
       (add-up-to binary64 sideLimit 4096 (lit≤ tt) _ offset (round-up-to binary64 false n 1 sideLimit (lit< tt) (lit≤ tt) (le-trans h (le-of-eq (sym (mul-one sideLimit))))) (offset-up-to offset ho))
       (scale-at-least scale hs))
       (frequency-up-to frequency hf)
-
--- x at the octave k from here
-unfoldable pub doubled : ℕ → Float → Float
-doubled zero x = x
-doubled (suc k) x = doubled k x ⊠ d2
 
 doubled-up-to : (k b : ℕ) (x : Float) → b * 2 ^ k ≤ 2 ^ 53 → UpTo b x → UpTo (b * 2 ^ k) (doubled k x)
 unfolding doubled

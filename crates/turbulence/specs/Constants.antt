@@ -1,5 +1,5 @@
 -- The literals of the Rust's formulas, by their bits.
-use lib.Ieee.{Float, binary32, binary64, ofBits}
+use lib.Ieee.{Float, binary64, ofBits}
 
 abbrev pub d0 : Float
 d0 = ofBits binary64 0
@@ -25,7 +25,3 @@ d255 = ofBits binary64 0x406f_e000_0000_0000
 
 abbrev pub d4096 : Float
 d4096 = ofBits binary64 0x40b0_0000_0000_0000
-
--- 0.5 of an `f32`
-abbrev pub half : Float
-half = ofBits binary32 0x3f00_0000

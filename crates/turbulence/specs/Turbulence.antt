@@ -7,7 +7,7 @@ use lib.ListN.{length}
 use lib.Dec.{leb}
 use lib.Ieee.{Float, binary32, binary64, ofInt, neg, toUnsigned}
 use lib.Ieee.Scale.{finite}
-use Rattle.floats.specs.Constants.{c0, c255}
+use Rattle.floats.specs.Constants.{c0, half, c255}
 use Rattle.floats.specs.Operators.{_⊕_, _⊞_, _⊠_, _⧄_}
 use Rattle.floats.specs.Order.{bound, within}
 use Rattle.floats.specs.Narrow.{narrowTo}
@@ -18,7 +18,7 @@ use Rattle.sheet.specs.Size.{sheetsAnswer}
 use Rattle.sheet.specs.Tabulate.{tabulate}
 use Rattle.sheet.specs.Pixel.{column, row}
 use Rattle.turbulence.specs.declared.Turbulence.{Turbulence}
-use Rattle.turbulence.specs.Constants.{d0, d1, d2, sixteenth, d16, d255, d4096, half}
+use Rattle.turbulence.specs.Constants.{d0, d1, d2, sixteenth, d16, d255, d4096}
 use Rattle.turbulence.specs.Tables.{selectorOf, gradientsX, gradientsY}
 use Rattle.turbulence.specs.Noise.{summed}
 

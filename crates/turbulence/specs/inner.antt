@@ -1,2 +1,6 @@
+pub mod Places
+pub mod Rows
+pub mod Columns
 pub mod Sums
-pub mod Spots
+pub mod Levels
+pub mod Drawn

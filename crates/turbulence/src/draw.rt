@@ -4,37 +4,14 @@ use crate::noise;
 use crate::tables;
 use sheet::pixel::Straight;
 ghost use mathlib.Core.Path.{_≡_};
-ghost use mathlib.Core.Bool.{Bool};
-ghost use Prim.Native.Nat.{_+_, _*_, _<_};
+ghost use Prim.Native.Nat.{ℕ, _+_, _*_, _≤_};
+ghost use lib.Dec.{T};
 ghost use lib.ListN.{length};
+ghost use Rattle.floats.specs.inner.Steps.{upTo};
 ghost use Rattle.sheet.specs.Size.{Sized};
 ghost use Rattle.turbulence.specs.Turbulence.{pointOn, scaledSum, byteOf, drawn};
-ghost use Rattle.turbulence.specs.inner.Spots.{At, PixelBy};
-
-// A pixel's column and row.
-pub struct Spot {
-    pub x: u32,
-    pub y: u32,
-}
-
-// The spot after one, row by row.
-fn next_spot(spot: Spot, width: u32) -> Spot
-    requires { ⌜ (spot .x < width) × (spot .y < 4294967295) ⌝ }
-    ensures { λ r. ⌜ At width (spot .y * width + spot .x + 1) r ⌝ }
-{
-    let right = spot.x + 1;
-    if right == width {
-        Spot {
-            x: 0,
-            y: spot.y + 1,
-        }
-    } else {
-        Spot {
-            x: right,
-            y: spot.y,
-        }
-    }
-}
+ghost use Rattle.turbulence.specs.inner.Levels.{levelOf, Parts};
+ghost use Rattle.turbulence.specs.inner.Drawn.{bytesBy, PixelBy, RowOf, RowRoom, Begun};
 
 // The point of pixel n on an axis, in user space and times the frequency.
 fn point_on(offset: f64, scale: f64, frequency: f64, n: u32) -> f64
@@ -55,25 +32,65 @@ fn scaled_sum(fractal: bool, n: f64) -> f64
 }
 
 // resvg's `(f32_bound(0.0, n as f32, 255.0) + 0.5) as u8`; a NaN gives 0.
+fn level_of(value: f64) -> u8
+    ensures { λ r. ⌜ r ≡ levelOf value ⌝ }
+{
+    floats::to_byte(floats::bound(0.0, floats::to_f32(value), 255.0) + 0.5)
+}
+
+// A value's 65,536ths, to the nearest one, and 32,769 more.
+fn parts_of(value: f64) -> u64
+    requires { ⌜ T (upTo 255 value) ⌝ }
+    ensures { λ r. ⌜ Parts value r ⌝ }
+{
+    let raised: f64 = value * 65536.0 + 4503599627370496.0;
+    f64::to_bits(raised) - 0x4330_0000_0000_0000 + 32769
+}
+
+// A sum's byte. Rounding to an `f32` moves a value by less than a part, so that more than one part from a half the
+// nearest whole number is known before.
 fn byte_of(fractal: bool, n: f64) -> u8
     ensures { λ r. ⌜ r ≡ byteOf fractal n ⌝ }
 {
-    let value = floats::to_f32(scaled_sum(fractal, n));
-    floats::to_byte(floats::bound(0.0, value, 255.0) + 0.5)
+    let value = scaled_sum(fractal, n);
+    if value > 0.0 {
+        if value < 255.0 {
+            let parts = parts_of(value);
+            if 1 < parts % 65536 {
+                return (parts / 65536) as u8;
+            }
+        }
+    }
+    level_of(value)
 }
 
+// The pixel in column x of a row.
 fn pixel(
     t: Turbulence,
     selector: &[u8; 514],
     gx: &[f64; 2056],
     gy: &[f64; 2056],
-    spot: Spot,
+    cells: &[u8; 8],
+    fractions: &[f64; 8],
+    curves: &[f64; 8],
+    x: u32,
 ) -> Straight
-    ensures { λ p. ⌜ PixelBy t (now (selector .entry)) (now (gx .entry)) (now (gy .entry)) (spot .x) (spot .y) (p .0) ⌝ }
+    requires { ⌜ t .«num_octaves» ≤ 8 ⌝ }
+    ensures { λ p. ⌜ ((y : ℕ) → RowOf t y (now (cells .entry)) (now (fractions .entry)) (now (curves .entry)) → PixelBy t (now (selector .entry)) (now (gx .entry)) (now (gy .entry)) x y (p .0)) ⌝ }
 {
-    let x = point_on(t.offset_x, t.sx, t.base_frequency_x, spot.x);
-    let y = point_on(t.offset_y, t.sy, t.base_frequency_y, spot.y);
-    let sum = noise::turbulence(t.fractal_noise, t.num_octaves, selector, gx, gy, x, y);
+    let across = point_on(t.offset_x, t.sx, t.base_frequency_x, x);
+    let octaves = t.num_octaves as usize;
+    let sum = noise::turbulence(
+        t.fractal_noise,
+        octaves,
+        selector,
+        gx,
+        gy,
+        cells,
+        fractions,
+        curves,
+        across,
+    );
     Straight::of(
         byte_of(t.fractal_noise, sum.r),
         byte_of(t.fractal_noise, sum.g),
@@ -82,10 +99,44 @@ fn pixel(
     )
 }
 
+// Row y is written, from the byte `start` on.
+fn draw_row(
+    t: Turbulence,
+    selector: &[u8; 514],
+    gx: &[f64; 2056],
+    gy: &[f64; 2056],
+    y: u32,
+    width: u32,
+    start: usize,
+    dest: &mut [u8],
+)
+    requires { ⌜ (t .«num_octaves» ≤ 8) × RowRoom width y start (now dest) ⌝ }
+    requires { ⌜ Begun (bytesBy t (now selector) (now gx) (now gy) width) start (now dest) ⌝ }
+    ensures begun { λ _. ⌜ Begun (bytesBy t (now (selector .entry)) (now (gx .entry)) (now (gy .entry)) width) (start + 4 * width) (now (dest .exit)) ⌝ }
+    ensures same { λ _. ⌜ length (now (dest .exit)) ≡ length (now (dest .entry)) ⌝ }
+{
+    let row = noise::row_at(point_on(t.offset_y, t.sy, t.base_frequency_y, y));
+    let cells = row.cells;
+    let fractions = row.fractions;
+    let curves = row.curves;
+    let mut x: u32 = 0;
+    let mut at = start;
+    while x < width {
+        sheet::pixel::put_straight(
+            dest,
+            at,
+            pixel(t, selector, gx, gy, &cells, &fractions, &curves, x),
+        );
+        at += 4;
+        x += 1;
+    }
+}
+
 // Every pixel of `dest` is written.
 pub fn draw(t: Turbulence, width: usize, height: usize, dest: &mut [u8])
     requires { ⌜ Sized width height ⌝ }
     requires { ⌜ length (now dest) ≡ 4 * width * height ⌝ }
+    requires { ⌜ t .«num_octaves» ≤ 8 ⌝ }
     ensures { λ _. ⌜ now (dest .exit) ≡ drawn t width height ⌝ }
 {
     let tables = tables::init(t.seed);
@@ -93,11 +144,11 @@ pub fn draw(t: Turbulence, width: usize, height: usize, dest: &mut [u8])
     let gx = tables.x;
     let gy = tables.y;
     let wide = width as u32;
-    let mut spot = Spot { x: 0, y: 0 };
+    let mut y: u32 = 0;
     let mut at = 0;
     while at < dest.len() {
-        sheet::pixel::put_straight(dest, at, pixel(t, &selector, &gx, &gy, spot));
-        spot = next_spot(spot, wide);
-        at += 4;
+        draw_row(t, &selector, &gx, &gy, y, wide, at, dest);
+        y += 1;
+        at += 4 * width;
     }
 }

@@ -1,5 +1,6 @@
 // The turbulence filter, as resvg's turbulence.rs, without stitching.
 mod draw;
+mod lattice;
 mod noise;
 mod random;
 mod tables;

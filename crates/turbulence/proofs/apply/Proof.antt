@@ -4,6 +4,7 @@ use mathlib.Core.Path.{refl}
 use Rattle.sheet.proofs.Answers.{refusing, both-tests, both-pass, sheets-first, sheets-sized}
 use Rattle.sheet.proofs.Contracts.{filtered-refused, filtered-done}
 use Rattle.turbulence.specs.Turbulence.{answer}
+use Rattle.turbulence.proofs.Bytes.{octaves-few}
 use Rattle.turbulence.proofs.apply.Statement.{statement}
 use Rattle.turbulence.proofs.apply.Tie as tie
 
@@ -32,7 +33,7 @@ draw-requires : tie.Need-draw-requires
 draw-requires c κs =
     let args = c .before .before .before .before .before .before .before .args in
     let passed = both-pass (both-tests (c .before .before .before .and-then .ensures) (c .before .before .before .before .before .test1 .ensures) (c .before .before .before .before .test .ensures)) (c .before .enum-told .given .1) in
-    (sheets-sized (args .width) (args .height) _ (passed .0), sheets-first (args .width) (args .height) _ _ (passed .0) .0)
+    (sheets-sized (args .width) (args .height) _ (passed .0), (sheets-first (args .width) (args .height) _ _ (passed .0) .0, octaves-few (args .t) (passed .1)))
 
 same-length : tie.Need-same-length
 same-length c = search needs

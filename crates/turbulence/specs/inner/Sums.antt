@@ -4,11 +4,13 @@ use mathlib.Core.Path.{_≡_}
 use mathlib.Core.Bool.{Bool}
 use mathlib.Core.List.{List}
 use lib.Ieee.{Float}
-use Rattle.floats.specs.Operators.{_⊞_}
+use Rattle.floats.specs.Operators.{_⊞_, _⊠_, _⧄_}
+use Rattle.floats.specs.Absolute.{absolute}
 use Rattle.turbulence.specs.declared.noise.Point.{Point}
 use Rattle.turbulence.specs.declared.noise.Channels.{Channels}
-use Rattle.turbulence.specs.Constants.{d0}
+use Rattle.turbulence.specs.Constants.{d0, d1}
 use Rattle.turbulence.specs.Noise.{noise, octave, summed}
+use Rattle.turbulence.specs.inner.Rows.{RowAt}
 
 -- every corner has one of the first 256 gradients
 abbrev pub CornersInside : Point → Type 0
@@ -23,6 +25,26 @@ withOctave fractal gx gy p ratio sum = record {
   a = sum .a ⊞ octave fractal (noise gx gy 3 p) ratio;
 }
 
+-- the noise of each channel
+unfoldable pub noisesOf : List Float → List Float → Point → Channels
+noisesOf gx gy p = record { r = noise gx gy 0 p; g = noise gx gy 1 p; b = noise gx gy 2 p; a = noise gx gy 3 p }
+
+-- without their signs
+unfoldable pub sizesOf : Channels → Channels
+sizesOf n = record { r = absolute (n .r); g = absolute (n .g); b = absolute (n .b); a = absolute (n .a) }
+
+-- the sums with the numbers times an inverse
+unfoldable pub addedTo : Channels → Channels → Float → Channels
+addedTo sum n inverse = record { r = sum .r ⊞ n .r ⊠ inverse; g = sum .g ⊞ n .g ⊠ inverse; b = sum .b ⊞ n .b ⊠ inverse; a = sum .a ⊞ n .a ⊠ inverse }
+
+-- a product with the inverse is the quotient by the ratio
+abbrev pub Inverse : Float → Float → Type 0
+Inverse ratio inverse = (n : Float) → n ⊠ inverse ≡ n ⧄ ratio
+
+-- s are the sums with one more octave, of a ratio with this inverse
+abbrev pub WithOctave : Bool → List Float → List Float → Point → Float → Channels → Channels → Type 0
+WithOctave fractal gx gy p inverse sum s = (ratio : Float) → Inverse ratio inverse → s ≡ withOctave fractal gx gy p ratio sum
+
 -- s are the four channels' sums over n octaves from a sum on
 pub record Sum (fractal : Bool) (n : ℕ) (selector : List ℕ) (gx gy : List Float) (x y ratio : Float) (sum s : Channels) : Type 0 where
   pub red : s .r ≡ summed fractal selector gx gy 0 n x y ratio (sum .r)
@@ -33,3 +55,7 @@ pub record Sum (fractal : Bool) (n : ℕ) (selector : List ℕ) (gx gy : List Fl
 -- no sum yet
 abbrev pub none : Channels
 none = record { r = d0; g = d0; b = d0; a = d0 }
+
+-- s are the four channels' sums at x in the row of these three lists, whichever row that is
+abbrev pub SumIn : Bool → ℕ → List ℕ → List Float → List Float → List ℕ → List Float → List Float → Float → Channels → Type 0
+SumIn fractal n selector gx gy cells fractions curves x s = (y : Float) → RowAt y cells fractions curves → Sum fractal n selector gx gy x y d1 none s

@@ -1,24 +1,22 @@
--- Each turn stores one pixel, and goes on to the next spot.
+-- Each turn draws one row.
 use borrow.Author.Needs.{needs}
-use Prim.Native.Nat.{_-_, _/_}
-use mathlib.Core.Path.{ap, _∙_}
-use native.Mathlib.Nat.{mul-assoc}
+use Prim.Native.Nat.{_+_, _-_, _*_}
+use mathlib.Core.Path.{_≡_, ap, _∙_}
 use native.Mathlib.Omega.{arith}
 use lib.ListN.{length}
 use mir.Syntax.{w32}
 use mir.ValLaws.{toZ-ofZ}
-use Rattle.sheet.proofs.Filling.{Painting, paint-start, paint-room, paint-pixel, paint-done}
 use Rattle.turbulence.specs.Tables.{selectorOf, gradientsX, gradientsY}
-use Rattle.turbulence.specs.inner.Spots.{At}
-use Rattle.turbulence.proofs.Bytes.{spot-few, spot-next, bytesBy, drawn-pixel, drawn-all}
+use Rattle.turbulence.specs.inner.Drawn.{bytesBy, Begun}
+use Rattle.turbulence.proofs.Bytes.{none-begun, next-row, rows-few, drawn-all}
 use Rattle.turbulence.proofs.draw.draw.Statement.{statement}
 use Rattle.turbulence.proofs.draw.draw.Tie as tie
 
 abbrev Inv-loop : tie.InvT-loop
-Inv-loop t width height dest₀ selector gx gy wide spot₀ at₀ dest spot at = Painting (bytesBy t selector gx gy width) dest₀ dest at × At width (at / 4) spot
+Inv-loop t width height dest₀ selector gx gy wide y₀ at₀ dest y at = Begun (bytesBy t selector gx gy width) at dest × (at ≡ 4 * (y * width)) × (length dest ≡ 4 * width * height)
 
 abbrev μ-loop : tie.MeasureT-loop
-μ-loop t width height dest₀ selector gx gy wide spot₀ at₀ dest spot at = length dest₀ - at
+μ-loop t width height dest₀ selector gx gy wide y₀ at₀ dest y at = length dest₀ - at
 
 init-requires : tie.Need-init-requires Inv-loop μ-loop
 init-requires c κs = search needs
@@ -27,45 +25,50 @@ cast-wide : tie.Need-cast-wide Inv-loop μ-loop
 cast-wide c = let s = c .before .before .before .before .before .before .pre .0 .wide-most in record { fits = omega arith }
 
 loop-holds : tie.Need-loop-holds Inv-loop μ-loop
-loop-holds c =
-    let pre = c .before .before .before .before .before .before .pre in
-    let pixels = mul-assoc 4 (c .before .before .before .before .before .before .args .width) (c .before .before .before .before .before .before .args .height) in
-    (paint-start _ _ (rw (pre .1) (omega arith)), record { number = omega arith; inside = pre .0 .wide })
+loop-holds c = (none-begun _ _, omega arith, c .before .before .before .before .before .before .pre .1 .0)
 
-pixel-requires : tie.Need-pixel-requires Inv-loop μ-loop
-pixel-requires c κs = search needs
+draw-row-requires : tie.Need-draw-row-requires Inv-loop μ-loop
+draw-row-requires c κs =
+    let pre = c .before .before .before .before .before .before .before .before .before .before .before .before .pre in
+    let inv = c .before .before .before .before .before .loop .inv in
+    ((pre .1 .1, next-row (c .before .before .before .before .before .before .before .before .before .before .before .before .args .width) (c .before .before .before .before .before .before .before .before .before .before .before .before .args .height) (c .before .before .before .before .before .loop .y) (c .before .before .before .before .before .loop .at) (inv .2) (inv .1) (c .before .before .before .before .loop-test .taken)), inv .0)
 
-put-straight-requires : tie.Need-put-straight-requires Inv-loop μ-loop
-put-straight-requires c κs = paint-room (c .before .before .before .before .before .before .loop .inv .0) (c .before .before .before .before .before .loop-test .taken)
+add-y : tie.Need-add-y Inv-loop μ-loop
+add-y c =
+    let pre = c .before .before .before .before .before .before .before .before .before .before .before .before .before .before .before .pre in
+    let inv = c .before .before .before .before .before .before .before .before .loop .inv in
+    let few = rows-few (c .before .before .before .before .before .before .before .before .before .before .before .before .before .before .before .args .width) (c .before .before .before .before .before .before .before .before .loop .y) (c .before .before .before .before .before .before .before .before .loop .at) _ (pre .0 .wide) (inv .1) (c .before .before .before .before .before .before .before .loop-test .taken) (omega (arith, inv .2, pre .0 .area)) in
+    search needs
 
-next-spot-requires : tie.Need-next-spot-requires Inv-loop μ-loop
-next-spot-requires c κs =
-    let inv = c .before .before .before .before .before .before .before .before .before .loop .inv in
-    let pre = c .before .before .before .before .before .before .before .before .before .before .before .before .before .before .before .before .pre in
-    let same = inv .0 .filling .same in
-    let area = pre .0 .area in
-    let few = c .before .before .before .before .before .before .before .before .loop-test .taken in
-    (inv .1 .inside, spot-few _ (c .before .before .before .before .before .before .before .before .before .loop .at) _ (inv .1) (pre .0 .wide) (omega (arith, pre .1)))
+mul-at : tie.Need-mul-at Inv-loop μ-loop
+mul-at c = let s = c .before .before .before .before .before .before .before .before .before .before .before .before .before .before .before .pre .0 .wide-most in search needs
 
 add-at : tie.Need-add-at Inv-loop μ-loop
-add-at c = let z = paint-room (c .before .before .before .before .before .before .before .before .before .before .loop .inv .0) (c .before .before .before .before .before .before .before .before .before .loop-test .taken) in let g = c .before .before .before .before .before .before .before .before .before .before .before .before .before .before .before .before .before .good in search needs
+add-at c =
+    let inv = c .before .before .before .before .before .before .before .before .loop .inv in
+    let room = next-row (c .before .before .before .before .before .before .before .before .before .before .before .before .before .before .before .args .width) (c .before .before .before .before .before .before .before .before .before .before .before .before .before .before .before .args .height) (c .before .before .before .before .before .before .before .before .loop .y) (c .before .before .before .before .before .before .before .before .loop .at) {d = c .before .before .before .before .before .before .before .before .loop .dest} (inv .2) (inv .1) (c .before .before .before .before .before .before .before .loop-test .taken) .room in
+    let area = c .before .before .before .before .before .before .before .before .before .before .before .before .before .before .before .pre .0 .area in
+    omega (arith, inv .2)
 
 loop-less : tie.Need-loop-less Inv-loop μ-loop
 loop-less c = search needs
 
 loop-again : tie.Need-loop-again Inv-loop μ-loop
 loop-again c =
-    let inv = c .before .before .before .before .before .before .before .before .before .before .loop .inv in
-    (paint-pixel (inv .0) (c .before .before .before .before .before .before .before .before .before .loop-test .taken) (c .before .before .before .put-straight .ensures) (drawn-pixel (c .before .before .before .before .before .before .before .before .before .before .before .before .before .before .before .before .before .args .t) _ _ _ (c .before .before .before .before .before .before .before .before .before .before .before .before .before .before .before .before .before .args .width) (c .before .before .before .before .before .before .before .before .before .before .loop .at) (c .before .before .before .before .before .before .before .before .before .before .loop .spot) (inv .1) (inv .0 .aligned) (c .before .before .before .before .pixel .ensures)), spot-next _ (c .before .before .before .before .before .before .before .before .before .before .loop .at) _ (inv .1) (c .next-spot .ensures))
+    let inv = c .before .before .before .before .before .before .before .before .loop .inv in
+    let same = inv .1 in
+    (c .before .before .draw-row .ensures .0, omega arith, c .before .before .draw-row .ensures .1 ∙ inv .2)
 
 same-length : tie.Need-same-length Inv-loop μ-loop
 same-length c = search needs
 
 returns : tie.Need-returns Inv-loop μ-loop
 returns c =
-    let e = toZ-ofZ w32 (c .before .before .before .before .before .before .before .before .args .t .seed) (record { sfits = c .before .before .before .before .before .before .struct-told .given .1 .1 .1 .1 .1 .1 .1 .0 .1 }) in
+    let args = c .before .before .before .before .before .before .before .before .args in
+    let inv = c .before .loop .inv in
+    let e = toZ-ofZ w32 (args .t .seed) (record { sfits = c .before .before .before .before .before .before .struct-told .given .1 .1 .1 .1 .1 .1 .1 .0 .1 }) in
     let told = c .before .before .before .before .before .init .ensures in
-    drawn-all (c .before .before .before .before .before .before .before .before .args .t) _ _ _ (c .before .before .before .before .before .before .before .before .args .width) (c .before .before .before .before .before .before .before .before .args .height) (told .0 ∙ ap selectorOf e) (told .1 ∙ ap gradientsX e) (told .2 ∙ ap gradientsY e) (paint-done (c .before .loop .inv .0) (c .loop-test .left) (c .before .before .before .before .before .before .before .before .pre .1))
+    drawn-all (args .t) _ _ _ (args .width) (args .height) (c .before .loop .at) (told .0 ∙ ap selectorOf e) (told .1 ∙ ap gradientsX e) (told .2 ∙ ap gradientsY e) (inv .2) (c .loop-test .left) (inv .0)
 
 pub draw-spec : {M : Type 1} → statement M
 draw-spec =
@@ -76,9 +79,9 @@ draw-spec =
     init-requires
     cast-wide
     loop-holds
-    pixel-requires
-    put-straight-requires
-    next-spot-requires
+    draw-row-requires
+    add-y
+    mul-at
     add-at
     loop-less
     loop-again

@@ -1,5 +1,6 @@
 -- Each channel by its call.
 use borrow.Author.Needs.{needs}
+use mathlib.Core.Path.{refl}
 use Rattle.sheet.proofs.Filling.{channels-as}
 use Rattle.turbulence.proofs.Bytes.{byte-is}
 use Rattle.turbulence.proofs.draw.pixel.Statement.{statement}
@@ -8,8 +9,8 @@ use Rattle.turbulence.proofs.draw.pixel.Tie as tie
 point-on-requires : tie.Need-point-on-requires
 point-on-requires c κs = search needs
 
-point-on-requires-2 : tie.Need-point-on-requires-2
-point-on-requires-2 c κs = search needs
+cast-octaves : tie.Need-cast-octaves
+cast-octaves c = search needs
 
 turbulence-requires : tie.Need-turbulence-requires
 turbulence-requires c κs = search needs
@@ -33,20 +34,20 @@ returns : tie.Need-returns
 returns c =
     let args = c .before .before .before .before .before .before .before .before .args in
     let x = c .before .before .before .before .before .before .before .point-on .ensures in
-    let y = c .before .before .before .before .before .before .point-on2 .ensures in
-    let sum = c .before .before .before .before .before .turbulence .ensures in
+    λ y row.
+    let sum = c .before .before .before .before .before .turbulence .ensures _ row in
     channels-as (c .of .ensures)
-    (byte-is (args .t) _ _ _ 0 (args .spot .x) (args .spot .y) x y (sum .red) (c .before .before .before .before .byte-of .ensures))
-    (byte-is (args .t) _ _ _ 1 (args .spot .x) (args .spot .y) x y (sum .green) (c .before .before .before .byte-of2 .ensures))
-    (byte-is (args .t) _ _ _ 2 (args .spot .x) (args .spot .y) x y (sum .blue) (c .before .before .byte-of3 .ensures))
-    (byte-is (args .t) _ _ _ 3 (args .spot .x) (args .spot .y) x y (sum .alpha) (c .before .byte-of4 .ensures))
+    (byte-is (args .t) _ _ _ 0 (args .x) y x refl (sum .red) (c .before .before .before .before .byte-of .ensures))
+    (byte-is (args .t) _ _ _ 1 (args .x) y x refl (sum .green) (c .before .before .before .byte-of2 .ensures))
+    (byte-is (args .t) _ _ _ 2 (args .x) y x refl (sum .blue) (c .before .before .byte-of3 .ensures))
+    (byte-is (args .t) _ _ _ 3 (args .x) y x refl (sum .alpha) (c .before .byte-of4 .ensures))
 
 pub pixel-spec : {M : Type 1} → statement M
 pixel-spec =
     tie.close
     (tie.spec
     point-on-requires
-    point-on-requires-2
+    cast-octaves
     turbulence-requires
     byte-of-requires
     byte-of-requires-2

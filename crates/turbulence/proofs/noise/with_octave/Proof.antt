@@ -1,46 +1,28 @@
--- Each channel's sum with its octave.
+-- As it is, or absolutely.
 use borrow.Author.Needs.{needs}
-use Rattle.turbulence.proofs.Octaves.{with-octave-is}
+use Rattle.turbulence.proofs.Octaves.{as-it-is, absolutely}
 use Rattle.turbulence.proofs.noise.with_octave.Statement.{statement}
 use Rattle.turbulence.proofs.noise.with_octave.Tie as tie
 
-noise-requires : tie.Need-noise-requires
-noise-requires c κs = search needs
+noises-requires : tie.Need-noises-requires
+noises-requires c κs = search needs
 
-octave-requires : tie.Need-octave-requires
-octave-requires c κs = search needs
+added-requires : tie.Need-added-requires
+added-requires c κs = search needs
 
-noise-requires-2 : tie.Need-noise-requires-2
-noise-requires-2 c κs = search needs
+sizes-requires : tie.Need-sizes-requires
+sizes-requires c κs = search needs
 
-octave-requires-2 : tie.Need-octave-requires-2
-octave-requires-2 c κs = search needs
-
-noise-requires-3 : tie.Need-noise-requires-3
-noise-requires-3 c κs = search needs
-
-octave-requires-3 : tie.Need-octave-requires-3
-octave-requires-3 c κs = search needs
-
-noise-requires-4 : tie.Need-noise-requires-4
-noise-requires-4 c κs = search needs
-
-octave-requires-4 : tie.Need-octave-requires-4
-octave-requires-4 c κs = search needs
+added-requires-2 : tie.Need-added-requires-2
+added-requires-2 c κs = search needs
 
 returns : tie.Need-returns
-returns c = with-octave-is (c .before .before .before .before .before .before .before .before .before .before .before .before .args .fractal) _ _ (c .before .before .before .before .before .before .before .before .before .before .before .before .args .p) (c .before .before .before .before .before .before .before .before .before .before .before .before .args .ratio) (c .before .before .before .before .before .before .before .before .before .before .before .before .args .sum) (c .before .before .before .before .before .before .before .before .before .before .before .noise .ensures) (c .before .before .before .before .before .before .before .before .before .before .octave .ensures) (c .before .before .before .before .before .before .before .before .noise2 .ensures) (c .before .before .before .before .before .before .before .octave2 .ensures) (c .before .before .before .before .before .noise3 .ensures) (c .before .before .before .before .octave3 .ensures) (c .before .before .noise4 .ensures) (c .before .octave4 .ensures)
+returns c = as-it-is (c .before .before .before .args .fractal) _ _ (c .before .before .before .args .p) (c .before .before .before .args .inverse) (c .before .before .before .args .sum) (c .before .if1 .taken) (c .before .before .noises .ensures) (c .added .ensures)
+
+returns-2 : tie.Need-returns-2
+returns-2 c = absolutely (c .before .before .before .before .args .fractal) _ _ (c .before .before .before .before .args .p) (c .before .before .before .before .args .inverse) (c .before .before .before .before .args .sum) (c .before .before .if1 .left) (c .before .before .before .noises .ensures) (c .before .sizes .ensures) (c .added2 .ensures)
 
 pub with-octave-spec : {M : Type 1} → statement M
 with-octave-spec =
     tie.close
-    (tie.spec
-    noise-requires
-    octave-requires
-    noise-requires-2
-    octave-requires-2
-    noise-requires-3
-    octave-requires-3
-    noise-requires-4
-    octave-requires-4
-    returns)
+    (tie.spec noises-requires added-requires sizes-requires added-requires-2 returns returns-2)

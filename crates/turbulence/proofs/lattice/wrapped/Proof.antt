@@ -4,9 +4,9 @@ use mathlib.Core.Path.{refl}
 use lib.IntN.{negsuc, _-ℤ_}
 use mir.Syntax.{w32}
 use mir.ValLaws.{toZ-ofZ}
-use Rattle.turbulence.proofs.Lattice.{below-zero, from-zero, wrapped-inside}
-use Rattle.turbulence.proofs.noise.wrapped.Statement.{statement}
-use Rattle.turbulence.proofs.noise.wrapped.Tie as tie
+use Rattle.turbulence.proofs.Modulo.{below-zero, from-zero, wrapped-inside}
+use Rattle.turbulence.proofs.lattice.wrapped.Statement.{statement}
+use Rattle.turbulence.proofs.lattice.wrapped.Tie as tie
 
 sub-result : tie.Need-sub-result
 sub-result c =

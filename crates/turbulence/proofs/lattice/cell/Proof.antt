@@ -6,8 +6,8 @@ use mir.Syntax.{w32}
 use mir.Val.{SFits}
 use mir.ValLaws.{toZ-ofZ}
 use Rattle.turbulence.specs.Noise.{cell, wrapped}
-use Rattle.turbulence.proofs.noise.cell.Statement.{statement}
-use Rattle.turbulence.proofs.noise.cell.Tie as tie
+use Rattle.turbulence.proofs.lattice.cell.Statement.{statement}
+use Rattle.turbulence.proofs.lattice.cell.Tie as tie
 
 to-i32-requires : tie.Need-to-i32-requires
 to-i32-requires c κs = search needs

@@ -3,8 +3,8 @@ use borrow.Author.Needs.{needs}
 use mathlib.Core.Path.{ap}
 use lib.Ieee.{binary64, sub}
 use Rattle.turbulence.specs.Noise.{fraction}
-use Rattle.turbulence.proofs.noise.fraction.Statement.{statement}
-use Rattle.turbulence.proofs.noise.fraction.Tie as tie
+use Rattle.turbulence.proofs.lattice.fraction.Statement.{statement}
+use Rattle.turbulence.proofs.lattice.fraction.Tie as tie
 
 whole-part-requires : tie.Need-whole-part-requires
 whole-part-requires c κs = search needs
