@@ -1,6 +1,7 @@
 -- The leans: alphas that agree round a pixel lean alike, and a line's places are the sheet's.
 use Prim.Native.Nat.{ℕ, _+_, _-_, _*_, _≤_, _<_}
 use mathlib.Core.Path.{_≡_, ap, _∙_}
+use mathlib.Core.Bool.{false}
 use mathlib.Core.List.{List}
 use native.Mathlib.Omega.{arith}
 use native.Mathlib.Decide.{decLt, ℕ-discrete}
@@ -9,7 +10,7 @@ use lib.ListN.{length, getD}
 use lib.IntN.{subℕ}
 use Rattle.sheet.specs.Pixel.{byteAt}
 use Rattle.sheet.proofs.Places.{rows, place-inside}
-use Rattle.lighting.specs.Surface.{alphaAt, before, after, weighted, behind, ahead, lean}
+use Rattle.lighting.specs.Surface.{alphaAt, before, after, weighted, behind, ahead, lean, atEdge, quarter, leanFactor}
 use Rattle.lighting.specs.inner.Lines.{inLine}
 
 -- ---- where a pixel's alpha lies, by its row and by its column
@@ -53,6 +54,32 @@ pub lean-ext : (n m : ℕ) (f g : ℕ → ℕ → ℕ) (i j : ℕ) → i < n →
 unfolding lean
 lean-ext n m f g i j p q e =
     ap (λ (a : ℕ). subℕ a (weighted m (f (behind i)) j)) (weighted-ext m (f (ahead n i)) (g (ahead n i)) j q (λ v a b c. e (ahead n i) v (omega arith) (omega arith) (omega arith) a b c)) ∙ ap (λ (a : ℕ). subℕ (weighted m (g (ahead n i)) j) a) (weighted-ext m (f (behind i)) (g (behind i)) j q (λ v a b c. e (behind i) v (omega arith) (omega arith) (omega arith) a b c))
+
+-- ---- a place with both its neighbours
+pub weighted-between : (n : ℕ) (f : ℕ → ℕ) (i : ℕ) → 0 < i → i + 1 < n → f (i - 1) + 2 * f i + f (i + 1) ≡ weighted n f i
+unfolding weighted
+weighted-between n f i p q = let some : i ≡ 0 → ⊥ = not-zero i p in rw (ne-eqb i 0 some, lt-ltb (i + 1) n q)
+  where
+    not-zero : (i : ℕ) → 0 < i → i ≡ 0 → ⊥
+    not-zero i p e = omega arith
+
+pub lean-between : (n m : ℕ) (f : ℕ → ℕ → ℕ) (i j : ℕ) → i + 1 < n → subℕ (weighted m (f (i + 1)) j) (weighted m (f (i - 1)) j) ≡ lean n m f i j
+unfolding lean
+lean-between n m f i j q = let next : i + 1 ≡ ahead n i = omega arith in ap (λ (k : ℕ). subℕ (weighted m (f k) j) (weighted m (f (i - 1)) j)) next
+
+not-at-edge : (n i : ℕ) → 0 < i → i + 1 < n → atEdge n i ≡ false
+unfolding atEdge
+not-at-edge n i p q = rw (ne-eqb i 0 (some i p), ne-eqb (i + 1) n (less (i + 1) n q))
+  where
+    some : (i : ℕ) → 0 < i → i ≡ 0 → ⊥
+    some i p e = omega arith
+
+    less : (a b : ℕ) → a < b → a ≡ b → ⊥
+    less a b q e = omega arith
+
+pub factor-between : (n m i j : ℕ) → 0 < i → i + 1 < n → 0 < j → j + 1 < m → leanFactor n m i j ≡ quarter
+unfolding leanFactor
+factor-between n m i j p q r s = rw (not-at-edge n i p q, not-at-edge m j r s)
 
 -- ---- the lines of a sheet are its rows and columns
 module _ (w h : ℕ) (s : List ℕ) (x y : ℕ) (p : x < w) (q : y < h) where

@@ -1,6 +1,9 @@
 mod Differences
 mod Cases
 mod Leans
+mod Lengths
+mod Halves
+mod Flat
 mod Pixels
 pub mod Reading
 pub mod WithinAlpha

@@ -1,5 +1,6 @@
--- Every alpha that a byte of a specular lighting reads is needed, so its reach is the least: of a clear sheet white light from above makes 255,
--- and an opaque pixel beside the byte's own makes the surface lean, and less light of it. The pixel's own alpha hides a point just above it.
+-- Every alpha that a byte of a lighting reads is needed, so its reach is the least: of a clear sheet white light from above makes 255, and an
+-- opaque pixel beside the byte's own makes the surface lean, and less light of it. The pixel's own alpha hides a point just above it. Diffuse
+-- light is opaque everywhere, so that its own alpha needs nothing: document 01 counts what it reads all the same.
 use Prim.Native.Nat.{ℕ, zero, suc, _+_, _*_, _%_, _≤_, _<_, max}
 use mathlib.Core.Path.{_≡_, refl, sym, ap, _∙_}
 use mathlib.Core.Bool.{Bool, true, false, cond, _&&_}
@@ -10,7 +11,7 @@ use native.Mathlib.Decide.{ℕ-discrete}
 use borrow.Author.Tests.{ne-eqb, le-ltb}
 use lib.ListN.{getD, replicate}
 use lib.Seq.{getD-set-other}
-use lib.Dec.{T, eqb, ltb, ltb→lt}
+use lib.Dec.{T, eqb, eqb→eq, ltb, ltb→lt}
 use lib.IntN.{pos, negsuc}
 use lib.Ieee.{Float, nan, inf, fin, binary32, ofBits, ofInt, toBits, toUnsigned, add, sub, sum, neg, mul, div, round, units, odd, size, span, climb, lt, le, eq}
 use lib.Ieee.Scale.{finite}
@@ -22,22 +23,26 @@ use Rattle.floats.specs.Order.{nearZero}
 use Rattle.floats.specs.Root.{rootAt, root, roundRoot, sqrtOf}
 use Rattle.floats.specs.Unit.{unitTriple}
 use Rattle.floats.proofs.EveryByte.{every, below}
+use Rattle.sheet.specs.declared.Answer.{Answer}
 use Rattle.sheet.specs.declared.Answer.the-variants.{Done}
 use Rattle.sheet.specs.Pixel.{column, row, byteAt}
+use Rattle.sheet.specs.Size.{sideLimit}
 use Rattle.sheet.proofs.Places.{place-inside, column-inside, row-inside, column-of-place, row-of-place}
 use Rattle.sheet.proofs.Apart.{Bytes, Apart, Needed, allBut, length-all-but, at-but, not-at-but, all-same, bytes-inside}
 use Rattle.lighting.specs.declared.light.LightSource.{LightSource}
 use Rattle.lighting.specs.declared.light.LightSource.the-variants.{Distant, Point}
-use Rattle.lighting.specs.declared.light.Reflection.the-variants.{Specular}
+use Rattle.lighting.specs.declared.light.Reflection.{Reflection}
+use Rattle.lighting.specs.declared.light.Reflection.the-variants.{Diffuse, Specular}
 use Rattle.lighting.specs.declared.light.Ray.{Ray}
-use Rattle.lighting.specs.declared.light.Ray.the-variants.{Short}
+use Rattle.lighting.specs.declared.light.Ray.the-variants.{Light, Short}
 use Rattle.lighting.specs.declared.pixel.Color.{Color}
+use Rattle.lighting.specs.declared.pixel.Lighting.{Lighting}
 use Rattle.lighting.specs.declared.surface.Normal.{Normal}
 use Rattle.lighting.specs.Vectors as Vectors
 use Rattle.lighting.specs.Vectors.{vector}
 use Rattle.lighting.specs.Surface.{alphaAt, ahead, behind, lean, atEdge, leanFactor, normalAt}
 use Rattle.lighting.specs.Light.{toPoint, lightVector, halfRay, rayOf, flat, along, lightFactor}
-use Rattle.lighting.specs.Lighting.{c256, finiteNumbers, numbersInRange, specularAnswer, litColour, colourOf, litChannel, factorAt, small, lit, specular}
+use Rattle.lighting.specs.Lighting.{c256, finiteNumbers, numbersInRange, diffuseAnswer, specularAnswer, litColour, colourOf, litChannel, factorAt, small, lit}
 use Rattle.lighting.specs.Reads.{Reads}
 use Rattle.lighting.proofs.Reading.{byte-lit}
 use Rattle.lighting.proofs.Rules.{normal, factorOf}
@@ -50,31 +55,61 @@ white = record { red = 255; green = 255; blue = 255 }
 abbrev shade : Ray → Normal → ℕ
 shade ray n = litColour 255 (lightFactor c256 c1 n ray)
 
-abbrev above : Ray
-above = rayOf Specular (vector c0 c0 c1)
+-- light from above
+abbrev above : Reflection → Ray
+above reflection = rayOf reflection (vector c0 c0 c1)
+
+-- and from below
+abbrev underneath : Reflection → Ray
+underneath Diffuse = Light (vector c0 c0 (neg c1))
+underneath Specular = Short
 
 -- ---- flat and leaning surfaces
-bright : (a b : Float) → shade above (normal a b (pos 0) (pos 0)) ≡ 255
+bright : (reflection : Reflection) (a b : Float) → shade (above reflection) (normal a b (pos 0) (pos 0)) ≡ 255
 unfolding litColour halfRay along flat Vectors.dot Vectors.length sqrtOf roundRoot root rootAt nearZero ofBits toBits ofInt toUnsigned add mul div sum round units odd size span climb trailingZeros lt le eq neg
-bright a b = refl
+bright Diffuse a b = refl
+bright Specular a b = refl
 
 -- the surface is flat, or less bright
-dark : (e d : Bool) → ℕ → ℕ → Bool
-dark e d i j = cond (eqb (i + j) 0) true (ltb (shade above (normal (factorOf e d) (factorOf d e) (tilt i) (tilt j))) 255)
+dark : Reflection → (e d : Bool) → ℕ → ℕ → Bool
+dark reflection e d i j = cond (eqb (i + j) 0) true (ltb (shade (above reflection) (normal (factorOf e d) (factorOf d e) (tilt i) (tilt j))) 255)
 
-all-dark : (e d : Bool) → T (every (λ i. every (dark e d i) 5) 5)
+all-dark : (reflection : Reflection) (e d : Bool) → T (every (λ i. every (dark reflection e d i) 5) 5)
 unfolding every dark litColour halfRay along flat Vectors.dot Vectors.length sqrtOf roundRoot root rootAt nearZero ofBits toBits ofInt toUnsigned add mul div sum round units odd size span climb trailingZeros lt le eq neg
-all-dark true true = tt
-all-dark true false = tt
-all-dark false true = tt
-all-dark false false = tt
+all-dark Diffuse true true = tt
+all-dark Diffuse true false = tt
+all-dark Diffuse false true = tt
+all-dark Diffuse false false = tt
+all-dark Specular true true = tt
+all-dark Specular true false = tt
+all-dark Specular false true = tt
+all-dark Specular false false = tt
 
-leaning : (e d : Bool) (i j : ℕ) → i < 5 → j < 5 → (i ≡ 0 → j ≡ 0 → ⊥) → shade above (normal (factorOf e d) (factorOf d e) (tilt i) (tilt j)) < 255
+leaning : (reflection : Reflection) (e d : Bool) (i j : ℕ) → i < 5 → j < 5 → (i ≡ 0 → j ≡ 0 → ⊥) → shade (above reflection) (normal (factorOf e d) (factorOf d e) (tilt i) (tilt j)) < 255
 unfolding dark
-leaning e d i j p q s =
-    let t = below (dark e d i) 5 (below (λ i. every (dark e d i) 5) 5 (all-dark e d) i p) j q in
+leaning reflection e d i j p q s =
+    let t = below (dark reflection e d i) 5 (below (λ i. every (dark reflection e d i) 5) 5 (all-dark reflection e d) i p) j q in
     let z = ne-eqb (i + j) 0 (λ z. s (omega arith) (omega arith)) in
     ltb→lt _ _ (rw z at t)
+
+-- light from below shows nowhere
+hidden : Reflection → (e d : Bool) → ℕ → ℕ → Bool
+hidden reflection e d i j = eqb (shade (underneath reflection) (normal (factorOf e d) (factorOf d e) (tilt i) (tilt j))) 0
+
+all-hidden : (reflection : Reflection) (e d : Bool) → T (every (λ i. every (hidden reflection e d i) 5) 5)
+unfolding every hidden litColour along flat Vectors.dot Vectors.length sqrtOf roundRoot root rootAt nearZero ofBits toBits ofInt toUnsigned add mul div sum round units odd size span climb trailingZeros lt le eq neg
+all-hidden Diffuse true true = tt
+all-hidden Diffuse true false = tt
+all-hidden Diffuse false true = tt
+all-hidden Diffuse false false = tt
+all-hidden Specular true true = tt
+all-hidden Specular true false = tt
+all-hidden Specular false true = tt
+all-hidden Specular false false = tt
+
+unlit : (reflection : Reflection) (e d : Bool) (i j : ℕ) → i < 5 → j < 5 → shade (underneath reflection) (normal (factorOf e d) (factorOf d e) (tilt i) (tilt j)) ≡ 0
+unfolding hidden
+unlit reflection e d i j p q = eqb→eq _ _ (below (hidden reflection e d i) 5 (below (λ i. every (hidden reflection e d i) 5) 5 (all-hidden reflection e d) i p) j q)
 
 -- ---- a clear sheet, and one whose pixel in column u and row v is opaque
 module _ (w h u v : ℕ) (p : u < w) (q : v < h) where
@@ -149,12 +184,18 @@ module _ (w h u v : ℕ) (p : u < w) (q : v < h) where
           (record { on = spot-on; off = λ i l d. spot-off i v l q (λ e f. d e) })
           (λ k l d i m. spot-off i k m l (λ e f. d f))
 
-      -- where the opaque pixel is another one
-      spot-dark : (x ≡ u → y ≡ v → ⊥) → shade above (normalAt w h spot x y) < 255
+      spot-unlit : (reflection : Reflection) → shade (underneath reflection) (normalAt w h spot x y) ≡ 0
       unfolding normalAt leanFactor
-      spot-dark d =
+      spot-unlit reflection =
           rw (tilt-x .is, tilt-y .is)
-          (leaning (atEdge w x) (atEdge h y) (tilt-x .which) (tilt-y .which) (tilt-x .few) (tilt-y .few)
+          (unlit reflection (atEdge w x) (atEdge h y) (tilt-x .which) (tilt-y .which) (tilt-x .few) (tilt-y .few))
+
+      -- where the opaque pixel is another one
+      spot-dark : (reflection : Reflection) → (x ≡ u → y ≡ v → ⊥) → shade (above reflection) (normalAt w h spot x y) < 255
+      unfolding normalAt leanFactor
+      spot-dark reflection d =
+          rw (tilt-x .is, tilt-y .is)
+          (leaning reflection (atEdge w x) (atEdge h y) (tilt-x .which) (tilt-y .which) (tilt-x .few) (tilt-y .few)
           (λ e f. d (level-x e) (level-y f)))
         where
           level-x : tilt-x .which ≡ 0 → x ≡ u
@@ -179,53 +220,68 @@ module _ (w h u v : ℕ) (p : u < w) (q : v < h) where
                   beside z (yes s) = inr s
                   beside z (no s) = inl (omega arith)
 
--- ---- a byte of white specular light is its shade
-channel-white : (f : Float) (c : ℕ) → litChannel Specular white f c ≡ litColour 255 f
-channel-white f c = go (eqb c 3) (colour c)
-  where
-    colour : (c : ℕ) → litColour (colourOf white c) f ≡ litColour 255 f
-    colour zero = refl
-    colour (suc zero) = refl
-    colour (suc (suc c)) = refl
+-- ---- a byte of white light is its shade
+-- a steep surface in white light
+abbrev whitely : Reflection → LightSource → Lighting
+whitely reflection light = record { reflection = reflection; light = light; scale = c256; constant = c1; color = white }
 
+-- the channels that light shows in: the colours, and of specular light alpha
+abbrev pub Shown : Reflection → ℕ → Type 0
+Shown Diffuse c = c ≡ 3 → ⊥
+Shown Specular c = Unit {0}
+
+colour-white : (f : Float) (c : ℕ) → litColour (colourOf white c) f ≡ litColour 255 f
+colour-white f zero = refl
+colour-white f (suc zero) = refl
+colour-white f (suc (suc c)) = refl
+
+channel-white : (reflection : Reflection) (f : Float) (c : ℕ) → Shown reflection c → litChannel reflection white f c ≡ litColour 255 f
+channel-white Diffuse f c n = rw (ne-eqb c 3 n) (colour-white f c)
+channel-white Specular f c n = go (eqb c 3) (colour-white f c)
+  where
     go : (t : Bool) → litColour (colourOf white c) f ≡ litColour 255 f → cond t (max (max (litColour 255 f) (litColour 255 f)) (litColour 255 f)) (litColour (colourOf white c) f) ≡ litColour 255 f
     go true e = omega arith
     go false e = e
 
-module _ (light : LightSource) (w h : ℕ) (p : 3 ≤ w) (q : 3 ≤ h) (s : List ℕ) (k : ℕ) (l : k < 4 * w * h) where
-  byte-shade : getD (lit (specular light c256 c1 white) w h s) k 0 ≡ shade (rayOf Specular (lightVector light c256 (alphaAt w s (column w k) (row w k)) (column w k) (row w k))) (normalAt w h s (column w k) (row w k))
+module _ (reflection : Reflection) (light : LightSource) (w h : ℕ) (p : 3 ≤ w) (q : 3 ≤ h) (s : List ℕ) (k : ℕ) (n : Shown reflection (k % 4)) (l : k < 4 * w * h) where
+  byte-shade : getD (lit (whitely reflection light) w h s) k 0 ≡ shade (rayOf reflection (lightVector light c256 (alphaAt w s (column w k) (row w k)) (column w k) (row w k))) (normalAt w h s (column w k) (row w k))
   unfolding small factorAt
   byte-shade =
-      byte-lit (specular light c256 c1 white) w h s k l ∙ rw (le-ltb w 3 p, le-ltb h 3 q) (channel-white (factorAt (specular light c256 c1 white) w h s (column w k) (row w k)) (k % 4))
+      byte-lit (whitely reflection light) w h s k l ∙ rw (le-ltb w 3 p, le-ltb h 3 q) (channel-white reflection (factorAt (whitely reflection light) w h s (column w k) (row w k)) (k % 4) n)
 
 -- ---- the lights
--- a light with which a specular lighting is accepted, and byte k needs byte j
-pub record NeededBy (w h k j : ℕ) : Type 0 where
+abbrev answered : Reflection → LightSource → Answer
+answered Diffuse light = diffuseAnswer light c256 c1
+answered Specular light = specularAnswer light c256 c1 c1
+
+-- a light with which a lighting is accepted, and byte k needs byte j
+pub record NeededBy (reflection : Reflection) (w h k j : ℕ) : Type 0 where
   pub light : LightSource
-  pub accepted : specularAnswer light c256 c1 c1 ≡ Done
-  pub needs : Needed (4 * w * h) j k (lit (specular light c256 c1 white) w h)
+  pub accepted : answered reflection light ≡ Done
+  pub needs : Needed (4 * w * h) j k (lit (whitely reflection light) w h)
 
-above-accepted : specularAnswer (Distant c0 c0 c1) c256 c1 c1 ≡ Done
-unfolding specularAnswer finiteNumbers numbersInRange unitTriple ofBits le lt eq
-above-accepted = refl
+above-accepted : (reflection : Reflection) → answered reflection (Distant c0 c0 c1) ≡ Done
+unfolding diffuseAnswer specularAnswer finiteNumbers numbersInRange unitTriple ofBits le lt eq
+above-accepted Diffuse = refl
+above-accepted Specular = refl
 
-module _ (w h : ℕ) (p : 3 ≤ w) (q : 3 ≤ h) (k : ℕ) (l : k < 4 * w * h) (u v : ℕ) (hu : u < w) (hv : v < h) where
-  round-needed : column w k ≤ u + 1 → u ≤ column w k + 1 → row w k ≤ v + 1 → v ≤ row w k + 1 → (column w k ≡ u → row w k ≡ v → ⊥) → NeededBy w h k (byteAt w u v 3)
+module _ (reflection : Reflection) (w h : ℕ) (p : 3 ≤ w) (q : 3 ≤ h) (k : ℕ) (n : Shown reflection (k % 4)) (l : k < 4 * w * h) (u v : ℕ) (hu : u < w) (hv : v < h) where
+  round-needed : column w k ≤ u + 1 → u ≤ column w k + 1 → row w k ≤ v + 1 → v ≤ row w k + 1 → (column w k ≡ u → row w k ≡ v → ⊥) → NeededBy reflection w h k (byteAt w u v 3)
   round-needed a₁ a₂ b₁ b₂ d =
       let wide : 0 < w = omega arith in
       let hx = column-inside w h k wide l in
       let hy = row-inside w h k wide l in
       record {
         light = Distant c0 c0 c1;
-        accepted = above-accepted;
+        accepted = above-accepted reflection;
         needs = record {
           first = clear w h u v hu hv;
           second = spot w h u v hu hv;
           apart = apart w h u v hu hv;
           told = λ e.
-              let lit-clear = byte-shade (Distant c0 c0 c1) w h p q (clear w h u v hu hv) k l ∙ (ap (shade above) (clear-normal w h u v hu hv (column w k) (row w k) hx hy) ∙ bright _ _) in
-              let lit-spot = byte-shade (Distant c0 c0 c1) w h p q (spot w h u v hu hv) k l in
-              let less = spot-dark w h u v hu hv (column w k) (row w k) hx hy (omega arith) (omega arith) a₁ a₂ b₁ b₂ d in
+              let lit-clear = byte-shade reflection (Distant c0 c0 c1) w h p q (clear w h u v hu hv) k n l ∙ (ap (shade (above reflection)) (clear-normal w h u v hu hv (column w k) (row w k) hx hy) ∙ bright reflection _ _) in
+              let lit-spot = byte-shade reflection (Distant c0 c0 c1) w h p q (spot w h u v hu hv) k n l in
+              let less = spot-dark w h u v hu hv (column w k) (row w k) hx hy (omega arith) (omega arith) a₁ a₂ b₁ b₂ reflection d in
               omega arith;
         };
       }
@@ -258,7 +314,7 @@ nought-is (fin false zero (pos zero)) t = refl
 sound : ℕ → Bool
 sound n = nought (asFloat n ⊖ asFloat n) && (finite (asFloat n) && (le m65536 (asFloat n) && le (asFloat n) c65536))
 
-all-sound : T (every sound 2048)
+all-sound : T (every sound sideLimit)
 unfolding every sound nought ofInt ofBits add sub sum neg round units odd size span climb trailingZeros lt le eq
 all-sound = tt
 
@@ -270,10 +326,10 @@ all-four true true false d t = absurd t
 all-four true false c d t = absurd t
 all-four false b c d t = absurd t
 
-module _ (n : ℕ) (l : n < 2048) where
+module _ (n : ℕ) (l : n < sideLimit) where
   sound-at : T (nought (asFloat n ⊖ asFloat n)) × (finite (asFloat n) ≡ true) × (le m65536 (asFloat n) ≡ true) × (le (asFloat n) c65536 ≡ true)
   unfolding sound
-  sound-at = all-four (nought (asFloat n ⊖ asFloat n)) (finite (asFloat n)) (le m65536 (asFloat n)) (le (asFloat n) c65536) (below sound 2048 all-sound n l)
+  sound-at = all-four (nought (asFloat n ⊖ asFloat n)) (finite (asFloat n)) (le m65536 (asFloat n)) (le (asFloat n) c65536) (below sound sideLimit all-sound n l)
 
   less-itself : asFloat n ⊖ asFloat n ≡ c0
   less-itself = nought-is (asFloat n ⊖ asFloat n) (sound-at .0)
@@ -282,70 +338,69 @@ clear-below-it : Vectors.unitOf (vector c0 c0 (c1 ⊖ normalized 0 ⊗ c256)) �
 unfolding normalized Vectors.unitOf Vectors.dot Vectors.length sqrtOf roundRoot root rootAt nearZero ofBits toBits ofInt add sub mul div sum round units odd size span climb trailingZeros lt le eq neg
 clear-below-it = refl
 
-opaque-above-it : halfRay (Vectors.unitOf (vector c0 c0 (c1 ⊖ normalized 255 ⊗ c256))) ≡ Short
+opaque-above-it : (reflection : Reflection) → rayOf reflection (Vectors.unitOf (vector c0 c0 (c1 ⊖ normalized 255 ⊗ c256))) ≡ underneath reflection
 unfolding halfRay normalized Vectors.unitOf Vectors.dot Vectors.length sqrtOf roundRoot root rootAt nearZero ofBits toBits ofInt add sub mul div sum round units odd size span climb trailingZeros lt le eq neg
-opaque-above-it = refl
+opaque-above-it Diffuse = refl
+opaque-above-it Specular = refl
 
-unlit : (n : Normal) → shade Short n ≡ 0
-unfolding litColour ofBits ofInt toUnsigned add mul sum round units odd size span climb trailingZeros lt le eq
-unlit n = refl
+the-rest : (reflection : Reflection) → answered reflection (Point c1 c1 c1) ≡ Done
+unfolding diffuseAnswer specularAnswer finiteNumbers numbersInRange ofBits le lt eq
+the-rest Diffuse = refl
+the-rest Specular = refl
 
-the-rest : specularAnswer (Point c1 c1 c1) c256 c1 c1 ≡ Done
-unfolding specularAnswer finiteNumbers numbersInRange ofBits le lt eq
-the-rest = refl
-
-module _ (x y : ℕ) (p : x < 2048) (q : y < 2048) where
-  point-accepted : specularAnswer (Point (asFloat x) (asFloat y) c1) c256 c1 c1 ≡ Done
-  unfolding specularAnswer finiteNumbers numbersInRange ofBits le
-  point-accepted =
-      let a = sound-at x p in
-      let b = sound-at y q in
-      rw (a .1, b .1, a .2, a .3, b .2, b .3) the-rest
+module _ (x y : ℕ) (p : x < sideLimit) (q : y < sideLimit) where
+  point-accepted : (reflection : Reflection) → answered reflection (Point (asFloat x) (asFloat y) c1) ≡ Done
+  unfolding diffuseAnswer specularAnswer finiteNumbers numbersInRange ofBits le
+  point-accepted Diffuse = let a = sound-at x p in let b = sound-at y q in rw (a .1, b .1, a .2, a .3, b .2, b .3) (the-rest Diffuse)
+  point-accepted Specular = let a = sound-at x p in let b = sound-at y q in rw (a .1, b .1, a .2, a .3, b .2, b .3) (the-rest Specular)
 
   -- from a clear pixel the point is straight above, and from an opaque one straight below
   from-clear : toPoint (asFloat x) (asFloat y) c1 c256 0 x y ≡ vector c0 c0 c1
   unfolding toPoint
   from-clear = rw (less-itself x p, less-itself y q) clear-below-it
 
-  from-opaque : halfRay (toPoint (asFloat x) (asFloat y) c1 c256 255 x y) ≡ Short
+  from-opaque : (reflection : Reflection) → rayOf reflection (toPoint (asFloat x) (asFloat y) c1 c256 255 x y) ≡ underneath reflection
   unfolding toPoint
-  from-opaque = rw (less-itself x p, less-itself y q) opaque-above-it
+  from-opaque reflection = rw (less-itself x p, less-itself y q) (opaque-above-it reflection)
 
-module _ (w h : ℕ) (p : 3 ≤ w) (q : 3 ≤ h) (a : w ≤ 2048) (b : h ≤ 2048) (k : ℕ) (l : k < 4 * w * h) where
-  own-needed : NeededBy w h k (byteAt w (column w k) (row w k) 3)
+module _ (reflection : Reflection) (w h : ℕ) (p : 3 ≤ w) (q : 3 ≤ h) (a : w ≤ sideLimit) (b : h ≤ sideLimit) (k : ℕ) (n : Shown reflection (k % 4)) (l : k < 4 * w * h) where
+  own-needed : NeededBy reflection w h k (byteAt w (column w k) (row w k) 3)
   own-needed =
       let wide : 0 < w = omega arith in
+      let x = column w k in
+      let y = row w k in
       let hx = column-inside w h k wide l in
       let hy = row-inside w h k wide l in
-      let nx : column w k < 2048 = omega arith in
-      let ny : row w k < 2048 = omega arith in
-      let light = Point (asFloat (column w k)) (asFloat (row w k)) c1 in
-      let cl = clear w h (column w k) (row w k) hx hy in
-      let sp = spot w h (column w k) (row w k) hx hy in
+      let nx : x < sideLimit = omega arith in
+      let ny : y < sideLimit = omega arith in
+      let light = Point (asFloat x) (asFloat y) c1 in
+      let cl = clear w h x y hx hy in
+      let sp = spot w h x y hx hy in
       record {
         light = light;
-        accepted = point-accepted (column w k) (row w k) nx ny;
+        accepted = point-accepted x y nx ny reflection;
         needs = record {
           first = cl;
           second = sp;
-          apart = apart w h (column w k) (row w k) hx hy;
+          apart = apart w h x y hx hy;
           told = λ e.
-              let e₁ = ap (λ (c : ℕ). shade (halfRay (toPoint (asFloat (column w k)) (asFloat (row w k)) c1 c256 c (column w k) (row w k))) (normalAt w h cl (column w k) (row w k))) (clear-alpha w h (column w k) (row w k) hx hy (column w k) (row w k) hx hy) in
-              let e₂ = ap (λ v. shade (halfRay v) (normalAt w h cl (column w k) (row w k))) (from-clear (column w k) (row w k) nx ny) in
-              let e₃ = ap (shade above) (clear-normal w h (column w k) (row w k) hx hy (column w k) (row w k) hx hy) in
-              let lit-clear = byte-shade light w h p q cl k l ∙ (e₁ ∙ (e₂ ∙ (e₃ ∙ bright _ _))) in
-              let f₁ = ap (λ (c : ℕ). shade (halfRay (toPoint (asFloat (column w k)) (asFloat (row w k)) c1 c256 c (column w k) (row w k))) (normalAt w h sp (column w k) (row w k))) (spot-on w h (column w k) (row w k) hx hy) in
-              let f₂ = ap (λ r. shade r (normalAt w h sp (column w k) (row w k))) (from-opaque (column w k) (row w k) nx ny) in
-              let lit-spot = byte-shade light w h p q sp k l ∙ (f₁ ∙ (f₂ ∙ unlit (normalAt w h sp (column w k) (row w k)))) in
+              let e₁ = ap (λ (c : ℕ). shade (rayOf reflection (toPoint (asFloat x) (asFloat y) c1 c256 c x y)) (normalAt w h cl x y)) (clear-alpha w h x y hx hy x y hx hy) in
+              let e₂ = ap (λ v. shade (rayOf reflection v) (normalAt w h cl x y)) (from-clear x y nx ny) in
+              let e₃ = ap (shade (above reflection)) (clear-normal w h x y hx hy x y hx hy) in
+              let lit-clear = byte-shade reflection light w h p q cl k n l ∙ (e₁ ∙ (e₂ ∙ (e₃ ∙ bright reflection _ _))) in
+              let f₁ = ap (λ (c : ℕ). shade (rayOf reflection (toPoint (asFloat x) (asFloat y) c1 c256 c x y)) (normalAt w h sp x y)) (spot-on w h x y hx hy) in
+              let f₂ = ap (λ r. shade r (normalAt w h sp x y)) (from-opaque x y nx ny reflection) in
+              let f₃ = spot-unlit w h x y hx hy x y hx hy (omega arith) (omega arith) (omega arith) (omega arith) (omega arith) (omega arith) reflection in
+              let lit-spot = byte-shade reflection light w h p q sp k n l ∙ (f₁ ∙ (f₂ ∙ f₃)) in
               omega arith;
         };
       }
 
   -- every byte that byte k reads
-  pub reads-needed : (j : ℕ) → Reads w h k j → NeededBy w h k j
+  pub reads-needed : (j : ℕ) → Reads w h k j → NeededBy reflection w h k j
   reads-needed j r = rw (r .is) (go (ℕ-discrete (column w k) (r .x)) (ℕ-discrete (row w k) (r .y)))
     where
-      go : Dec (column w k ≡ r .x) → Dec (row w k ≡ r .y) → NeededBy w h k (byteAt w (r .x) (r .y) 3)
+      go : Dec (column w k ≡ r .x) → Dec (row w k ≡ r .y) → NeededBy reflection w h k (byteAt w (r .x) (r .y) 3)
       go (yes e) (yes f) = rw (← e, ← f) own-needed
-      go (no e) f = round-needed w h p q k l (r .x) (r .y) (r .near-column .inside) (r .near-row .inside) (r .near-column .low) (r .near-column .high) (r .near-row .low) (r .near-row .high) (λ z s. e z)
-      go (yes e) (no f) = round-needed w h p q k l (r .x) (r .y) (r .near-column .inside) (r .near-row .inside) (r .near-column .low) (r .near-column .high) (r .near-row .low) (r .near-row .high) (λ z s. f s)
+      go (no e) f = round-needed reflection w h p q k n l (r .x) (r .y) (r .near-column .inside) (r .near-row .inside) (r .near-column .low) (r .near-column .high) (r .near-row .low) (r .near-row .high) (λ z s. e z)
+      go (yes e) (no f) = round-needed reflection w h p q k n l (r .x) (r .y) (r .near-column .inside) (r .near-row .inside) (r .near-column .low) (r .near-column .high) (r .near-row .low) (r .near-row .high) (λ z s. f s)

@@ -7,8 +7,9 @@ use native.Mathlib.Omega.{arith}
 use borrow.Author.Tests.{eq-eqb, ne-eqb, lt-ltb, le-ltb}
 use lib.IntN.{ℤ, subℕ}
 use lib.Ieee.{Float}
+use Rattle.floats.specs.Constants.{half}
 use Rattle.lighting.specs.declared.surface.Normal.{Normal}
-use Rattle.lighting.specs.Surface.{alphaAt, weighted, behind, ahead, lean, turned, atEdge, quarter, third, half, twoThirds, leanFactor, normalAt}
+use Rattle.lighting.specs.Surface.{alphaAt, weighted, behind, ahead, lean, turned, atEdge, quarter, third, twoThirds, leanFactor, normalAt}
 
 -- resvg's `Normal::new`
 abbrev pub normal : (fx fy : Float) → (nx ny : ℤ) → Normal

@@ -7,7 +7,7 @@ use lib.Dec.{eqb, ltb}
 use lib.IntN.{pos}
 use lib.Ieee.{Float, binary32, ofBits, ofInt, toUnsigned}
 use lib.Ieee.Scale.{finite}
-use Rattle.floats.specs.Constants.{c0, c1, c255, c65536, m65536}
+use Rattle.floats.specs.Constants.{c0, half, c1, c255, c65536, m65536}
 use Rattle.floats.specs.Operators.{_⊕_, _⊗_}
 use Rattle.floats.specs.Order.{bound, within}
 use Rattle.floats.specs.Unit.{unitTriple}
@@ -23,7 +23,7 @@ use Rattle.lighting.specs.declared.light.Reflection.{Reflection}
 use Rattle.lighting.specs.declared.light.Reflection.the-variants.{Diffuse, Specular}
 use Rattle.lighting.specs.declared.pixel.Color.{Color}
 use Rattle.lighting.specs.declared.pixel.Lighting.{Lighting}
-use Rattle.lighting.specs.Surface.{alphaAt, half, normalAt}
+use Rattle.lighting.specs.Surface.{alphaAt, normalAt}
 use Rattle.lighting.specs.Light.{lightVector, rayOf, lightFactor}
 
 -- ---- tests 4 and 5

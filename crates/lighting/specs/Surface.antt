@@ -6,6 +6,7 @@ use lib.ListN.{getD}
 use lib.Dec.{eqb, ltb}
 use lib.IntN.{ℤ, subℕ, negℤ}
 use lib.Ieee.{Float, binary32, ofBits, ofInt}
+use Rattle.floats.specs.Constants.{half}
 use Rattle.sheet.specs.Pixel.{byteAt}
 use Rattle.lighting.specs.declared.surface.Normal.{Normal}
 
@@ -44,15 +45,12 @@ turned z = ofInt binary32 (negℤ z)
 unfoldable pub atEdge : ℕ → ℕ → Bool
 atEdge n i = cond (eqb i 0) true (eqb (i + 1) n)
 
--- 1 / 4, 1 / 3, 1 / 2 and 2 / 3
+-- 1 / 4, 1 / 3 and 2 / 3
 abbrev pub quarter : Float
 quarter = ofBits binary32 0x3e80_0000
 
 abbrev pub third : Float
 third = ofBits binary32 0x3eaa_aaab
-
-abbrev pub half : Float
-half = ofBits binary32 0x3f00_0000
 
 abbrev pub twoThirds : Float
 twoThirds = ofBits binary32 0x3f2a_aaab

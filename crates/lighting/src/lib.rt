@@ -16,7 +16,8 @@ ghost use mathlib.Core.Bool.{cond, false};
 ghost use lib.Ieee.Scale.{finite};
 ghost use Rattle.floats.specs.Order.{within};
 ghost use Rattle.sheet.specs.Contract.{was, Filtered};
-ghost use Rattle.lighting.specs.Lighting.{all3, finiteLight, inReach, m256, c256, lightInRange, finiteNumbers, numbersInRange, tested, diffuseAnswer, specularAnswer, answer, lit, diffuse, specular};
+ghost use Rattle.lighting.specs.Lighting.{all3, finiteLight, inReach, m256, c256, lightInRange, finiteNumbers, numbersInRange, tested};
+ghost use Rattle.lighting.specs.Lighting.{diffuseAnswer, specularAnswer, answer, lit, diffuse, specular};
 
 // The largest size of a place, and of the surface's scale and a lighting constant.
 const PLACE_LIMIT: f32 = 65536.0;

@@ -2,6 +2,7 @@
 use crate::vector::Vector3;
 ghost use mathlib.Core.Path.{_≡_};
 ghost use Prim.Native.Nat.{_≤_};
+ghost use Rattle.sheet.specs.Size.{sideLimit};
 ghost use Rattle.lighting.specs.inner.Rays.{fixedRay};
 ghost use Rattle.lighting.specs.Light as Light;
 
@@ -26,7 +27,7 @@ pub enum Ray {
 
 // From the surface of a pixel to a point.
 fn to_point(px: f32, py: f32, pz: f32, scale: f32, alpha: u8, x: usize, y: usize) -> Vector3
-    requires { ⌜ (x ≤ 2048) × (y ≤ 2048) ⌝ }
+    requires { ⌜ (x ≤ sideLimit) × (y ≤ sideLimit) ⌝ }
     ensures { λ r. ⌜ r ≡ Light.toPoint px py pz scale alpha x y ⌝ }
 {
     let nz = floats::normalized(alpha) * scale;
@@ -54,7 +55,7 @@ fn half(vector: Vector3) -> Ray
         y: 0.0,
         z: 1.0,
     });
-    let length = h.length();
+    let length = floats::sqrt32(h.dot(h));
     if floats::near_zero(length) {
         Ray::Short
     } else {
@@ -99,7 +100,7 @@ pub fn ray_at(
     y: usize,
 ) -> Ray
     requires { ⌜ fixed ≡ fixedRay reflection light ⌝ }
-    requires { ⌜ (x ≤ 2048) × (y ≤ 2048) ⌝ }
+    requires { ⌜ (x ≤ sideLimit) × (y ≤ sideLimit) ⌝ }
     ensures { λ r. ⌜ r ≡ Light.rayOf reflection (Light.lightVector light scale alpha x y) ⌝ }
 {
     match light {

@@ -4,14 +4,14 @@ use crate::light::Ray;
 use crate::light::Reflection;
 use crate::surface::Normal;
 use crate::vector::Vector3;
+use sheet::pixel::Pixel;
 use sheet::pixel::Premultiplied;
 use sheet::pixel::Straight;
 ghost use mathlib.Core.Path.{_≡_};
-ghost use Prim.Native.Nat.{_+_, _<_, max};
-ghost use lib.ListN.{length};
+ghost use Prim.Native.Nat.{max};
 ghost use Rattle.lighting.specs.Light as Light;
 ghost use Rattle.lighting.specs.Lighting.{litColour};
-ghost use Rattle.lighting.specs.inner.Pixels.{Lit, PutLit};
+ghost use Rattle.lighting.specs.inner.Pixels.{colour, flatFactor, Lit};
 
 // A light's colour.
 pub struct Color {
@@ -29,7 +29,7 @@ pub struct Lighting {
     pub color: Color,
 }
 
-fn is_flat(normal: Normal) -> bool
+pub fn is_flat(normal: Normal) -> bool
     ensures { λ r. ⌜ r ≡ Light.flat normal ⌝ }
 {
     if floats::near_zero(normal.x) {
@@ -58,7 +58,7 @@ fn along(scale: f32, normal: Normal, v: Vector3) -> f32
         return v.z;
     }
     let n = normal_vector(scale, normal);
-    n.dot(v) / n.length()
+    n.dot(v) / floats::sqrt32(n.dot(n))
 }
 
 pub fn light_factor(scale: f32, constant: f32, normal: Normal, ray: Ray) -> f32
@@ -71,11 +71,22 @@ pub fn light_factor(scale: f32, constant: f32, normal: Normal, ray: Ray) -> f32
     }
 }
 
-// A colour's channel by a factor.
+// `light_factor` of a flat surface.
+pub fn flat_factor(constant: f32, ray: Ray) -> f32
+    ensures { λ r. ⌜ r ≡ flatFactor constant ray ⌝ }
+{
+    match ray {
+        Ray::Light(v) => constant * v.z,
+        Ray::Half(h, length) => constant * (h.z / length),
+        Ray::Short => 0.0,
+    }
+}
+
+// A colour's channel by a factor. The cut brings it to 0 to 255 by itself.
 fn compute(c: u8, factor: f32) -> u8
     ensures { λ r. ⌜ r ≡ litColour c factor ⌝ }
 {
-    floats::to_byte(floats::bound(0.0, (c as f32) * factor, 255.0) + 0.5)
+    floats::to_byte((c as f32) * factor + 0.5)
 }
 
 fn larger(a: u8, b: u8) -> u8
@@ -84,33 +95,32 @@ fn larger(a: u8, b: u8) -> u8
     if a < b { b } else { a }
 }
 
-fn diffuse(color: Color, factor: f32) -> Straight
-    ensures { λ p. ⌜ Lit Reflection.Diffuse color factor (p .0) ⌝ }
+fn diffuse(red: u8, green: u8, blue: u8, factor: f32) -> Straight
+    ensures { λ p. ⌜ Lit Reflection.Diffuse (colour red green blue) factor (p .0) ⌝ }
 {
     Straight::of(
-        compute(color.red, factor),
-        compute(color.green, factor),
-        compute(color.blue, factor),
+        compute(red, factor),
+        compute(green, factor),
+        compute(blue, factor),
         255,
     )
 }
 
-fn specular(color: Color, factor: f32) -> Premultiplied
-    ensures { λ p. ⌜ Lit Reflection.Specular color factor (p .0) ⌝ }
+fn specular(red: u8, green: u8, blue: u8, factor: f32) -> Premultiplied
+    ensures { λ p. ⌜ Lit Reflection.Specular (colour red green blue) factor (p .0) ⌝ }
 {
-    let r = compute(color.red, factor);
-    let g = compute(color.green, factor);
-    let b = compute(color.blue, factor);
+    let r = compute(red, factor);
+    let g = compute(green, factor);
+    let b = compute(blue, factor);
     Premultiplied::of(r, g, b, larger(larger(r, g), b))
 }
 
-// Stores a pixel that is lit by a factor at the bytes from k on.
-pub fn put(dest: &mut [u8], k: usize, reflection: Reflection, color: Color, factor: f32)
-    requires { ⌜ k + 3 < length (now dest) ⌝ }
-    ensures { λ _. ⌜ PutLit reflection color factor (now (dest .entry)) k (now (dest .exit)) ⌝ }
+// The pixel that is lit by a factor.
+pub fn lit(reflection: Reflection, red: u8, green: u8, blue: u8, factor: f32) -> Pixel
+    ensures { λ p. ⌜ Lit reflection (colour red green blue) factor (p .0) ⌝ }
 {
     match reflection {
-        Reflection::Diffuse => sheet::pixel::put_straight(dest, k, diffuse(color, factor)),
-        Reflection::Specular => sheet::pixel::put_premultiplied(dest, k, specular(color, factor)),
+        Reflection::Diffuse => Pixel(diffuse(red, green, blue, factor).0),
+        Reflection::Specular => Pixel(specular(red, green, blue, factor).0),
     }
 }

@@ -1,10 +1,12 @@
 // How the surface leans at a pixel, by the alphas round it.
 ghost use mathlib.Core.Path.{_≡_};
 ghost use Prim.Native.Nat.{_+_, _*_, _≤_, _<_};
+ghost use lib.Dec.{T};
 ghost use lib.ListN.{length};
 ghost use lib.IntN.{subℕ};
+ghost use Rattle.sheet.specs.Size.{sideLimit};
 ghost use Rattle.lighting.specs.Surface as Surface;
-ghost use Rattle.lighting.specs.inner.Lines.{inLine, Inside, Crossing};
+ghost use Rattle.lighting.specs.inner.Lines.{inLine, Inside, Crossing, Between, leanOf, normalOf};
 
 const FACTOR_1_2: f32 = 1.0 / 2.0;
 
@@ -106,7 +108,7 @@ fn turned(ahead: u16, behind: u16) -> f32
 // The lean along a line, turned round: alphas ahead against those behind, each weighted across the line.
 fn lean(src: &[u8], along: Line, across: Line) -> f32
     requires { ⌜ Crossing (now src) along across ⌝ }
-    ensures { λ r. ⌜ r ≡ Surface.turned (Surface.lean (along .count) (across .count) (λ i. inLine (now (src .entry)) (across .step) (along .step * i)) (along .at) (across .at)) ⌝ }
+    ensures { λ r. ⌜ r ≡ leanOf (now (src .entry)) along across ⌝ }
 {
     turned(
         weighted(src, along.step * ahead(along), across),
@@ -142,9 +144,80 @@ fn factor(along: Line, across: Line) -> f32
     }
 }
 
+// Whether a place has both its neighbours.
+fn between(line: Line) -> bool
+    requires { ⌜ line .at < line .count ⌝ }
+    ensures { λ r. ⌜ (T r → Between line) ⌝ }
+{
+    if line.at == 0 {
+        return false;
+    }
+    line.at + 1 < line.count
+}
+
+// `weighted` where the pixel has both neighbours.
+fn weighted_between(src: &[u8], first: usize, line: Line) -> u16
+    requires { ⌜ Inside (now src) line first ⌝ }
+    requires { ⌜ Between line ⌝ }
+    ensures { λ r. ⌜ (r ≡ Surface.weighted (line .count) (inLine (now (src .entry)) (line .step) first) (line .at)) × (r ≤ 1020) ⌝ }
+{
+    let own = alpha(src, first, line.step, line.at);
+    let last = alpha(src, first, line.step, line.at - 1);
+    let next = alpha(src, first, line.step, line.at + 1);
+    last + 2 * own + next
+}
+
+// `lean` where the pixel has all its neighbours.
+fn lean_between(src: &[u8], along: Line, across: Line) -> f32
+    requires { ⌜ Crossing (now src) along across ⌝ }
+    requires { ⌜ Between along × Between across ⌝ }
+    ensures { λ r. ⌜ r ≡ leanOf (now (src .entry)) along across ⌝ }
+{
+    turned(
+        weighted_between(src, along.step * (along.at + 1), across),
+        weighted_between(src, along.step * (along.at - 1), across),
+    )
+}
+
+// How the surface leans at a pixel that has all its neighbours.
+fn normal_between(src: &[u8], columns: Line, rows: Line) -> Normal
+    requires { ⌜ Crossing (now src) columns rows × Crossing (now src) rows columns ⌝ }
+    requires { ⌜ Between columns × Between rows ⌝ }
+    ensures { λ r. ⌜ r ≡ normalOf (now (src .entry)) columns rows ⌝ }
+{
+    Normal {
+        fx: FACTOR_1_4,
+        fy: FACTOR_1_4,
+        x: lean_between(src, columns, rows),
+        y: lean_between(src, rows, columns),
+    }
+}
+
+// How the surface leans where two lines cross.
+fn normal_of(src: &[u8], columns: Line, rows: Line) -> Normal
+    requires { ⌜ Crossing (now src) columns rows × Crossing (now src) rows columns ⌝ }
+    ensures { λ r. ⌜ r ≡ normalOf (now (src .entry)) columns rows ⌝ }
+{
+    if between(columns) {
+        if between(rows) {
+            return normal_between(src, columns, rows);
+        }
+    }
+    let fx = factor(columns, rows);
+    let fy = factor(rows, columns);
+    let lean_x = lean(src, columns, rows);
+    let lean_y = lean(src, rows, columns);
+    Normal {
+        fx,
+        fy,
+        x: lean_x,
+        y: lean_y,
+    }
+}
+
 // How the surface leans at the pixel in column x and row y.
 pub fn normal_at(src: &[u8], width: usize, height: usize, x: usize, y: usize) -> Normal
-    requires { ⌜ (x < width) × (y < height) × (width ≤ 2048) ⌝ }
+    requires { ⌜ (x < width) × (y < height) × (width ≤ sideLimit) ⌝ }
     requires { ⌜ length (now src) ≡ 4 * width * height ⌝ }
     ensures { λ r. ⌜ r ≡ Surface.normalAt width height (now (src .entry)) x y ⌝ }
 {
@@ -158,14 +231,5 @@ pub fn normal_at(src: &[u8], width: usize, height: usize, x: usize, y: usize) ->
         count: height,
         step: 4 * width,
     };
-    let fx = factor(columns, rows);
-    let fy = factor(rows, columns);
-    let lean_x = lean(src, columns, rows);
-    let lean_y = lean(src, rows, columns);
-    Normal {
-        fx,
-        fy,
-        x: lean_x,
-        y: lean_y,
-    }
+    normal_of(src, columns, rows)
 }

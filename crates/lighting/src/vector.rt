@@ -43,12 +43,6 @@ impl Vector3 {
         self.x * other.x + self.y * other.y + self.z * other.z
     }
 
-    pub fn length(self) -> f32
-        ensures { λ r. ⌜ r ≡ Vectors.length self ⌝ }
-    {
-        floats::sqrt32(self.dot(self))
-    }
-
     pub fn divided(self, n: f32) -> Vector3
         ensures { λ r. ⌜ r ≡ Vectors.divided self n ⌝ }
     {
@@ -62,7 +56,7 @@ impl Vector3 {
     pub fn normalized(self) -> Normalized
         ensures { λ r. ⌜ r ≡ cond (nearZero (Vectors.length self)) Normalized.Short (Normalized.Unit (Vectors.divided self (Vectors.length self))) ⌝ }
     {
-        let length = self.length();
+        let length = floats::sqrt32(self.dot(self));
         if floats::near_zero(length) {
             Normalized::Short
         } else {
