@@ -186,6 +186,19 @@ nup_answer nup_to_bytes(const float *xs, size_t xs_len,
 nup_answer nup_round_to_i32s(const float *xs, size_t xs_len,
                              int32_t *out, size_t out_len);
 
+/* The square root of each of xs, rounded once; a NaN where it is a NaN or below
+   zero. Refused: 2 where the two lengths differ. */
+nup_answer nup_sqrt32(const float *xs, size_t xs_len,
+                      float *out, size_t out_len);
+nup_answer nup_sqrt64(const double *xs, size_t xs_len,
+                      double *out, size_t out_len);
+
+/* Each of xs rounded to the nearest float, a tie to the even one: an infinity
+   beyond the largest, and a NaN for a NaN. Refused: 2 where the two lengths
+   differ. */
+nup_answer nup_to_f32s(const double *xs, size_t xs_len,
+                       float *out, size_t out_len);
+
 /* dst takes src's bytes. Refused: 2 where the two lengths differ. */
 nup_answer nup_copy(const uint8_t *src, size_t src_len,
                     uint8_t *dst, size_t dst_len);

@@ -11,7 +11,7 @@
 #include <unistd.h>
 #include "nuprikhen.h"
 
-enum { SIDE = 40, SLICES = 5, ROUNDS = 4, ROOM = 16 * SIDE * SIDE };
+enum { SIDE = 40, SLICES = 5, ROUNDS = 4, ROOM = 32 * SIDE * SIDE };
 
 /* A lent slice: where it starts, and its number of elements. */
 typedef struct {
@@ -22,7 +22,7 @@ typedef struct {
 #define LEND(s) (s).start, (s).length
 
 /* A function, with a letter for each slice that it is lent: s a sheet's bytes,
-   f as many numbers, m a matrix, t a table, p a slope and an intercept. The
+   f as many numbers, d as many doubles, m a matrix, t a table, p a slope and an intercept. The
    round varies its parameters. */
 typedef struct {
     const char *name, *lent;
@@ -112,6 +112,21 @@ static nup_answer round_to_i32s(uint32_t w, uint32_t h, int round, const slice *
     return nup_round_to_i32s(LEND(s[0]), LEND(s[1]));
 }
 
+static nup_answer sqrt32(uint32_t w, uint32_t h, int round, const slice *s) {
+    (void)w, (void)h, (void)round;
+    return nup_sqrt32(LEND(s[0]), LEND(s[1]));
+}
+
+static nup_answer sqrt64(uint32_t w, uint32_t h, int round, const slice *s) {
+    (void)w, (void)h, (void)round;
+    return nup_sqrt64(LEND(s[0]), LEND(s[1]));
+}
+
+static nup_answer to_f32s(uint32_t w, uint32_t h, int round, const slice *s) {
+    (void)w, (void)h, (void)round;
+    return nup_to_f32s(LEND(s[0]), LEND(s[1]));
+}
+
 static nup_answer copy(uint32_t w, uint32_t h, int round, const slice *s) {
     (void)w, (void)h, (void)round;
     return nup_copy(LEND(s[0]), LEND(s[1]));
@@ -138,6 +153,9 @@ static const function functions[] = {
     {"nup_specular_lighting", "ss", 1, specular_lighting},
     {"nup_to_bytes", "fs", 0, to_bytes},
     {"nup_round_to_i32s", "ff", 0, round_to_i32s},
+    {"nup_sqrt32", "ff", 0, sqrt32},
+    {"nup_sqrt64", "dd", 0, sqrt64},
+    {"nup_to_f32s", "df", 0, to_f32s},
     {"nup_copy", "ss", 0, copy},
     {"nup_clear", "s", 0, clear},
 };
@@ -185,15 +203,26 @@ static size_t elements(char letter) {
     }
 }
 
+static size_t bytes_each(char letter) {
+    switch (letter) {
+    case 's': return 1;
+    case 'd': return 8;
+    default: return 4;
+    }
+}
+
 /* A slice against the page before its room, or the one behind it. */
 static slice against(int i, char letter, int behind) {
     slice s = {area + page + (size_t)i * (room + page), elements(letter)};
-    uint8_t *bytes;
-    if (behind) s.start = (uint8_t *)s.start + room - s.length * (letter == 's' ? 1 : 4);
-    bytes = s.start;
-    for (size_t k = 0; k < s.length; k++)
-        if (letter == 's') bytes[k] = (uint8_t)(37 * k + 11);
-        else ((float *)s.start)[k] = (float)(k % 9) / 8 - 0.25f;
+    if (behind) s.start = (uint8_t *)s.start + room - s.length * bytes_each(letter);
+    for (size_t k = 0; k < s.length; k++) {
+        float number = (float)(k % 9) / 8 - 0.25f;
+        switch (letter) {
+        case 's': ((uint8_t *)s.start)[k] = (uint8_t)(37 * k + 11); break;
+        case 'd': ((double *)s.start)[k] = number; break;
+        default: ((float *)s.start)[k] = number;
+        }
+    }
     return s;
 }
 
@@ -232,7 +261,7 @@ static void refused_lengths(void) {
     size_t lengths[SLICES] = {0}, count = strlen(now->lent), right;
     for (size_t i = 0; i < count; i++) lengths[i] = elements(now->lent[i]);
     for (size_t i = 0; i < count; i++)
-        if (strchr("sf", now->lent[i])) {
+        if (strchr("sfd", now->lent[i])) {
             right = lengths[i];
             lengths[i] = right + 1;
             refused(2, lengths);

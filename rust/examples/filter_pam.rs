@@ -4,11 +4,13 @@ use std::fs::{self, File};
 use std::io::Read;
 use std::process::ExitCode;
 
+use effects::{EFFECTS, Effect};
 use nuprikhen::color_matrix::{self, ColorMatrix};
 use nuprikhen::component_transfer::{self, TransferFunction};
 use nuprikhen::morphology::{self, MorphologyOperator};
 use pam::Picture;
 
+mod effects;
 mod pam;
 
 const HELP: &str = "\
@@ -21,6 +23,8 @@ usage: filter_pam IN.pam OUT.pam FILTER
   hue DEGREES        the hue turned
   luminance          colour 0, and the luminance as alpha
   poster             four levels of each colour
+  edges, ripple, emboss, clouds
+                     a convolution, a displacement, lighting and turbulence at work
 
 Pictures are PAM: P7, RGB_ALPHA, DEPTH 4, MAXVAL 255, sides 1 to 2,048. Colour is taken as it stands:
 dilate and erode take it as premultiplied, the others as straight, which is the same where a picture
@@ -58,6 +62,7 @@ enum Filter {
     Morphology(MorphologyOperator, f32, f32),
     Matrix(ColorMatrix<'static>),
     Transfer([TransferFunction<'static>; 4]),
+    Effect(Effect),
 }
 
 fn main() -> ExitCode {
@@ -102,6 +107,9 @@ fn bytes_of(path: &str) -> Result<Vec<u8>, String> {
 }
 
 fn filter_of(words: &[&str]) -> Result<Filter, String> {
+    if let Some((_, effect)) = EFFECTS.iter().find(|(name, _)| words == [*name]) {
+        return Ok(Filter::Effect(*effect));
+    }
     Ok(match *words {
         ["dilate", rx, ry] => {
             Filter::Morphology(MorphologyOperator::Dilate, number(rx)?, number(ry)?)
@@ -152,13 +160,14 @@ fn apply(filter: &Filter, picture: &mut Picture) -> Result<(), String> {
         Filter::Transfer([r, g, b, a]) => {
             component_transfer::apply(r, g, b, a, *width, *height, sheet)
         }
+        Filter::Effect(effect) => effect(picture),
     };
     told.map_err(|refusal| refusal.to_string())
 }
 
 #[cfg(test)]
 mod tests {
-    use super::{Picture, fs, pam, run};
+    use super::{EFFECTS, Picture, fs, pam, run};
     use std::env;
     use std::path::{Path, PathBuf};
 
@@ -226,6 +235,16 @@ mod tests {
             .expect("done");
         let poster = [[0, 0, 0, 10], [255, 255, 255, 200], [0, 0, 0, 30]].concat();
         assert_eq!(pam::read(&bytes).expect("a picture").sheet, poster);
+    }
+
+    #[test]
+    fn effects_keep_the_size() {
+        let folder = Folder::new("effects");
+        for (name, _) in EFFECTS {
+            let bytes = folder.filtered(&pam::write(&row()), &[name]).expect(name);
+            let picture = pam::read(&bytes).expect("a picture");
+            assert_eq!((picture.width, picture.height), (3, 1), "{name}");
+        }
     }
 
     #[test]

@@ -1,7 +1,8 @@
-mod Mapping
 mod Calls
+mod Mapping
 mod Operators
 mod Functions
 mod Naming
+mod Edges
 mod Selectors
 mod Lights

@@ -9,7 +9,7 @@ use Rattle.floats.specs.Order.{within}
 use Rattle.floats.specs.Unit.{unitTriple}
 use Rattle.lighting.specs.declared.light.LightSource.the-variants.{Distant}
 use Rattle.lighting.specs.Lighting.{tested, finiteNumbers, numbersInRange, diffuseAnswer, specularAnswer}
-use Rattle.nuprikhen.specs.Numbers.{lightOf}
+use Rattle.nuprikhen.specs.Lights.{lightOf}
 
 pub no-light : (n : ℕ) (x y z : Float) → (n ≡ 0 → ⊥) → (n ≡ 1 → ⊥) → Distant c0 c0 c0 ≡ lightOf n x y z
 no-light zero x y z a b = absurd (a refl)

@@ -2,14 +2,17 @@
 use Prim.Native.Nat.{ℕ, zero, suc}
 use mathlib.Core.Bool.{cond}
 use mathlib.Core.List.{List}
-use lib.Dec.{leb}
+use lib.Dec.{ltb}
 use lib.Ieee.{Float}
 use Rattle.sheet.specs.declared.Answer.{Answer}
 use Rattle.sheet.specs.declared.Answer.the-variants.{Done}
 use Rattle.sheet.specs.Answer.{refusal, andThen}
+use Rattle.sheet.specs.Contract.{Lent, was}
 use Rattle.displacement_map.specs.declared.ColorChannel.{ColorChannel}
 use Rattle.displacement_map.specs.declared.ColorChannel.the-variants.{R, G, B, A}
-use Rattle.displacement_map.specs.DisplacementMap as DisplacementMap
+use Rattle.displacement_map.specs.DisplacementMap.{answer, displaced}
+use Rattle.nuprikhen.specs.declared.nup_answer.{«nup_answer»}
+use Rattle.nuprikhen.specs.Called.{Called}
 
 -- 0 is R, 1 is G, 2 is B, 3 is A
 abbrev pub channelOf : ℕ → ColorChannel
@@ -18,9 +21,16 @@ channelOf (suc zero) = G
 channelOf (suc (suc zero)) = B
 channelOf (suc (suc (suc n))) = A
 
-abbrev pub channelsAnswer : ℕ → ℕ → Answer
-channelsAnswer x y = cond (leb x 3) (cond (leb y 3) Done (refusal 5)) (refusal 5)
+-- both numbers are 0 to 3
+unfoldable pub namedChannels : ℕ → ℕ → Answer
+namedChannels x y = cond (ltb 3 x) (refusal 5) (cond (ltb 3 y) (refusal 5) Done)
 
--- the channels' numbers are tested with the ranges, the last of the tests
-unfoldable pub displacementAnswer : ℕ → ℕ → Float → Float → Float → ℕ → ℕ → List ℕ → List ℕ → List ℕ → Answer
-displacementAnswer x y sx sy scale w h src map dest = andThen (DisplacementMap.answer sx sy scale w h src map dest) (channelsAnswer x y)
+-- the two numbers, whose test is `named`, are tested with the ranges, the last of the tests
+unfoldable pub displacementAnswer : Answer → Float → Float → Float → ℕ → ℕ → List ℕ → List ℕ → List ℕ → Answer
+displacementAnswer named sx sy scale w h src map dest = andThen (answer sx sy scale w h src map dest) named
+
+-- the contract, by the two numbers: what the call told, and the destination
+abbrev pub Displaced : (x y : ℕ) → Float → Float → Float → ℕ → ℕ → Lent ℕ → Lent ℕ → «nup_answer» → Lent ℕ → Type 0
+Displaced x y sx sy scale w h src map r dest =
+    Called (displacementAnswer (namedChannels x y) sx sy scale w h (was src) (was map) (was dest)) r
+    (displaced (channelOf x) (channelOf y) sx sy scale w h (was src) (was map)) dest

@@ -8,8 +8,11 @@ use lib.Ieee.{Float}
 use Rattle.sheet.specs.declared.Answer.{Answer}
 use Rattle.sheet.specs.declared.Answer.the-variants.{Done}
 use Rattle.sheet.specs.Answer.{refusal, andThen}
+use Rattle.sheet.specs.Contract.{Lent, was}
 use Rattle.turbulence.specs.declared.Turbulence.{Turbulence}
-use Rattle.turbulence.specs.Turbulence as Turbulence
+use Rattle.turbulence.specs.Turbulence.{answer, drawn}
+use Rattle.nuprikhen.specs.declared.nup_answer.{«nup_answer»}
+use Rattle.nuprikhen.specs.Called.{Called}
 
 -- kind 1 is fractal noise
 abbrev pub turbulenceOf : (ox oy sx sy fx fy : Float) → ℕ → ℤ → ℕ → Turbulence
@@ -26,9 +29,13 @@ turbulenceOf ox oy sx sy fx fy octaves seed kind = record {
 }
 
 -- no stitching, and the kind 0 or 1
-unfoldable pub numbersAnswer : ℕ → ℕ → Answer
-numbersAnswer stitch kind = cond (ltb 0 stitch) (refusal 5) (cond (ltb 1 kind) (refusal 5) Done)
+unfoldable pub namedKind : ℕ → ℕ → Answer
+namedKind stitch kind = cond (ltb 0 stitch) (refusal 5) (cond (ltb 1 kind) (refusal 5) Done)
 
 -- the numbers are tested with the ranges, the last of the tests
-unfoldable pub turbulenceAnswer : ℕ → ℕ → Turbulence → ℕ → ℕ → List ℕ → Answer
-turbulenceAnswer stitch kind t w h dest = andThen (Turbulence.answer t w h dest) (numbersAnswer stitch kind)
+unfoldable pub noiseAnswer : ℕ → ℕ → Turbulence → ℕ → ℕ → List ℕ → Answer
+noiseAnswer stitch kind t w h dest = andThen (answer t w h dest) (namedKind stitch kind)
+
+-- the contract: what the call told, and the sheet
+abbrev pub Drawn : (stitch kind : ℕ) → Turbulence → ℕ → ℕ → «nup_answer» → Lent ℕ → Type 0
+Drawn stitch kind t w h r dest = Called (noiseAnswer stitch kind t w h (was dest)) r (drawn t w h) dest

@@ -1,4 +1,4 @@
--- What a number names across the C boundary; one that names no case is out of range.
+-- What the number of a transfer function names across the C boundary; one that names no case is out of range.
 use Prim.Native.Nat.{ℕ, zero, suc, min}
 use lib.Ieee.{Float}
 use mathlib.Core.Bool.{cond}
@@ -7,34 +7,13 @@ use lib.Dec.{eqb}
 use lib.ListN.{length}
 use Rattle.sheet.specs.declared.Answer.{Answer}
 use Rattle.sheet.specs.declared.Answer.the-variants.{Done}
-use Rattle.sheet.specs.Answer.{refusal, andThen}
+use Rattle.sheet.specs.Answer.{refusal}
 use Rattle.sheet.specs.Contract.{Lent, was}
 use Rattle.pool.specs.declared.Numbers.{Numbers}
-use Rattle.morphology.specs.declared.operator.MorphologyOperator.{MorphologyOperator}
-use Rattle.morphology.specs.declared.operator.MorphologyOperator.the-variants.{Dilate, Erode}
-use Rattle.morphology.specs.Morphology as Morphology
 use Rattle.component_transfer.specs.declared.TransferFunction.{TransferFunction}
 use Rattle.component_transfer.specs.declared.TransferFunction.the-variants.{Identity, Table, Discrete, Linear}
 use Rattle.component_transfer.specs.Functions.{valueAt}
 use Rattle.component_transfer.specs.ComponentTransfer.{functionAnswer, transfer, answer, transferred}
-use Rattle.floats.specs.Constants.{c0}
-use Rattle.lighting.specs.declared.light.LightSource.{LightSource}
-use Rattle.lighting.specs.declared.light.LightSource.the-variants.{Distant, Point}
-use Rattle.lighting.specs.declared.pixel.Color.{Color}
-
--- 0 is Dilate, 1 is Erode
-abbrev pub operatorOf : ℕ → MorphologyOperator
-operatorOf zero = Dilate
-operatorOf (suc n) = Erode
-
-abbrev pub operatorAnswer : ℕ → Answer
-operatorAnswer zero = Done
-operatorAnswer (suc zero) = Done
-operatorAnswer (suc (suc n)) = refusal 5
-
--- the operator's number is tested with the ranges, the last of the tests
-unfoldable pub morphologyAnswer : ℕ → Float → Float → ℕ → ℕ → List ℕ → List ℕ → Answer
-morphologyAnswer op rx ry w h src scratch = andThen (Morphology.answer rx ry w h src scratch) (operatorAnswer op)
 
 -- all the values as a range; a slice that is too long for one is refused 3 all the same
 abbrev pub allOf : List Float → Numbers
@@ -74,13 +53,3 @@ transferAnswer red r green g blue b alpha a w h src =
 abbrev pub transferBytes : ℕ → Lent Float → ℕ → Lent Float → ℕ → Lent Float → ℕ → Lent Float → Lent ℕ → List ℕ
 transferBytes red r green g blue b alpha a src =
     transferred (byteBy red r) (byteBy green g) (byteBy blue b) (byteBy alpha a) (was src)
-
--- ---- lights
--- 0 is Distant, 1 is Point; any other is a direction of no length, which is out of range whatever x, y and z are
-abbrev pub lightOf : ℕ → Float → Float → Float → LightSource
-lightOf zero x y z = Distant x y z
-lightOf (suc zero) x y z = Point x y z
-lightOf (suc (suc n)) x y z = Distant c0 c0 c0
-
-abbrev pub colorOf : (red green blue : ℕ) → Color
-colorOf red green blue = record { red = red; green = green; blue = blue }

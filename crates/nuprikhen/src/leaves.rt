@@ -6,7 +6,9 @@ use sheet::Refusal;
 ghost use mathlib.Core.Path.{_≡_};
 ghost use mathlib.Core.List.{map, [], _∷_};
 ghost use lib.ListN.{length};
-ghost use lib.Ieee.{toUnsigned};
+ghost use lib.Ieee.{binary32, binary64, toUnsigned};
+ghost use Rattle.floats.specs.Narrow.{narrowTo};
+ghost use Rattle.floats.specs.Root.{sqrtOf};
 ghost use Rattle.floats.specs.Round.{roundTo};
 ghost use Rattle.sheet.specs.declared.Answer.the-variants.{Done};
 ghost use Rattle.sheet.specs.Size.{lengthsAnswer};
@@ -23,28 +25,6 @@ fn test(a: usize, b: usize) -> Answer
     Answer::Done
 }
 
-fn to_bytes(xs: &[f32], out: &mut [u8])
-    requires { ⌜ length (now xs) ≡ length (now out) ⌝ }
-    ensures { λ _. ⌜ became out ≡ map (toUnsigned 8) (was xs) ⌝ }
-{
-    let mut i = 0;
-    while i < out.len() {
-        out[i] = floats::to_byte(xs[i]);
-        i += 1;
-    }
-}
-
-fn round_to_i32s(xs: &[f32], out: &mut [i32])
-    requires { ⌜ length (now xs) ≡ length (now out) ⌝ }
-    ensures { λ _. ⌜ became out ≡ map (roundTo 31) (was xs) ⌝ }
-{
-    let mut i = 0;
-    while i < out.len() {
-        out[i] = floats::round_to_i32(xs[i]);
-        i += 1;
-    }
-}
-
 // Each of xs as a byte.
 #[no_mangle]
 pub extern "C" fn nup_to_bytes(xs: &[f32], out: &mut [u8]) -> nup_answer
@@ -54,7 +34,11 @@ pub extern "C" fn nup_to_bytes(xs: &[f32], out: &mut [u8]) -> nup_answer
     let Answer::Done = tested else {
         return told(tested);
     };
-    to_bytes(xs, out);
+    let mut i = 0;
+    while i < out.len() {
+        out[i] = floats::to_byte(xs[i]);
+        i += 1;
+    }
     told(tested)
 }
 
@@ -67,7 +51,62 @@ pub extern "C" fn nup_round_to_i32s(xs: &[f32], out: &mut [i32]) -> nup_answer
     let Answer::Done = tested else {
         return told(tested);
     };
-    round_to_i32s(xs, out);
+    let mut i = 0;
+    while i < out.len() {
+        out[i] = floats::round_to_i32(xs[i]);
+        i += 1;
+    }
+    told(tested)
+}
+
+// The square root of each of xs.
+#[no_mangle]
+pub extern "C" fn nup_sqrt32(xs: &[f32], out: &mut [f32]) -> nup_answer
+    ensures { λ r. ⌜ Called (pairAnswer xs out) r (map (sqrtOf binary32) (was xs)) out ⌝ }
+{
+    let tested = test(xs.len(), out.len());
+    let Answer::Done = tested else {
+        return told(tested);
+    };
+    let mut i = 0;
+    while i < out.len() {
+        out[i] = floats::sqrt32(xs[i]);
+        i += 1;
+    }
+    told(tested)
+}
+
+// The square root of each of xs.
+#[no_mangle]
+pub extern "C" fn nup_sqrt64(xs: &[f64], out: &mut [f64]) -> nup_answer
+    ensures { λ r. ⌜ Called (pairAnswer xs out) r (map (sqrtOf binary64) (was xs)) out ⌝ }
+{
+    let tested = test(xs.len(), out.len());
+    let Answer::Done = tested else {
+        return told(tested);
+    };
+    let mut i = 0;
+    while i < out.len() {
+        out[i] = floats::sqrt64(xs[i]);
+        i += 1;
+    }
+    told(tested)
+}
+
+// Each of xs rounded to the nearest f32.
+#[no_mangle]
+pub extern "C" fn nup_to_f32s(xs: &[f64], out: &mut [f32]) -> nup_answer
+    ensures { λ r. ⌜ Called (pairAnswer xs out) r (map (narrowTo binary32) (was xs)) out ⌝ }
+{
+    let tested = test(xs.len(), out.len());
+    let Answer::Done = tested else {
+        return told(tested);
+    };
+    let mut i = 0;
+    while i < out.len() {
+        out[i] = floats::to_f32(xs[i]);
+        i += 1;
+    }
     told(tested)
 }
 

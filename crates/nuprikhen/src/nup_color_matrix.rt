@@ -9,17 +9,11 @@ ghost use Rattle.color_matrix.specs.declared.ColorMatrix.the-variants.{Matrix, 
 ghost use Rattle.nuprikhen.specs.Colours.{Recoloured};
 ghost use Rattle.nuprikhen.specs.Numbers.{allOf};
 
-// Any of the cases; the numbers of a Matrix stand in the pool.
-fn recolour(
-    matrix: ColorMatrix,
-    pool: &[f32],
-    width: u32,
-    height: u32,
-    src: &mut [u8],
-) -> nup_answer
-    ensures { λ r. ⌜ Recoloured matrix (was pool) width height r src ⌝ }
+// A case that reads no pool.
+fn recolour(matrix: ColorMatrix, width: u32, height: u32, src: &mut [u8]) -> nup_answer
+    ensures { λ r. ⌜ Recoloured matrix [] width height r src ⌝ }
 {
-    told(color_matrix::apply(matrix, pool, width as usize, height as usize, src))
+    told(color_matrix::apply(matrix, &[], width as usize, height as usize, src))
 }
 
 // A matrix of twenty numbers on straight colour, in place.
@@ -27,7 +21,8 @@ fn recolour(
 pub extern "C" fn nup_color_matrix(width: u32, height: u32, m: &[f32], src: &mut [u8]) -> nup_answer
     ensures { λ r. ⌜ Recoloured (Matrix (allOf (was m))) (was m) width height r src ⌝ }
 {
-    recolour(ColorMatrix::Matrix(all_of(m)), m, width, height, src)
+    let matrix = ColorMatrix::Matrix(all_of(m));
+    told(color_matrix::apply(matrix, m, width as usize, height as usize, src))
 }
 
 // Saturation of straight colour, in place.
@@ -35,7 +30,7 @@ pub extern "C" fn nup_color_matrix(width: u32, height: u32, m: &[f32], src: &mut
 pub extern "C" fn nup_saturate(width: u32, height: u32, v: f32, src: &mut [u8]) -> nup_answer
     ensures { λ r. ⌜ Recoloured (Saturate v) [] width height r src ⌝ }
 {
-    recolour(ColorMatrix::Saturate(v), &[], width, height, src)
+    recolour(ColorMatrix::Saturate(v), width, height, src)
 }
 
 // The hue of straight colour turned, in place, by the angle that has this cosine and this sine.
@@ -49,13 +44,7 @@ pub extern "C" fn nup_hue_rotate(
 ) -> nup_answer
     ensures { λ r. ⌜ Recoloured (HueRotate cosine sine) [] width height r src ⌝ }
 {
-    recolour(
-        ColorMatrix::HueRotate(cosine, sine),
-        &[],
-        width,
-        height,
-        src,
-    )
+    recolour(ColorMatrix::HueRotate(cosine, sine), width, height, src)
 }
 
 // No colour, and the luminance of straight colour as alpha, in place.
@@ -63,5 +52,5 @@ pub extern "C" fn nup_hue_rotate(
 pub extern "C" fn nup_luminance_to_alpha(width: u32, height: u32, src: &mut [u8]) -> nup_answer
     ensures { λ r. ⌜ Recoloured LuminanceToAlpha [] width height r src ⌝ }
 {
-    recolour(ColorMatrix::LuminanceToAlpha, &[], width, height, src)
+    recolour(ColorMatrix::LuminanceToAlpha, width, height, src)
 }

@@ -9,8 +9,7 @@ use sheet::Refusal;
 ghost use mathlib.Core.Path.{_≡_};
 ghost use Rattle.sheet.specs.Contract.{was, Filtered, Cleared};
 ghost use Rattle.convolve_matrix.specs.ConvolveMatrix.{convolved};
-ghost use Rattle.nuprikhen.specs.Called.{Called};
-ghost use Rattle.nuprikhen.specs.Convolving.{edgeOf, namedAnswer, convolveAnswer, matrixOf};
+ghost use Rattle.nuprikhen.specs.Convolving.{edgeOf, namedEdge, convolveAnswer, matrixOf, Convolved};
 
 fn edge_of(edge: u8) -> EdgeMode
     ensures { λ r. ⌜ r ≡ edgeOf edge ⌝ }
@@ -26,7 +25,7 @@ fn edge_of(edge: u8) -> EdgeMode
 
 // Test 5 of the two numbers.
 fn test_named(edge: u8, preserve: u8) -> Answer
-    ensures { λ r. ⌜ r ≡ namedAnswer edge preserve ⌝ }
+    ensures { λ r. ⌜ r ≡ namedEdge edge preserve ⌝ }
 {
     if 2 < edge {
         return Answer::Refused(Refusal::Range, 0);
@@ -77,8 +76,7 @@ pub extern "C" fn nup_convolve_matrix(
     src: &mut [u8],
     scratch: &mut [u8],
 ) -> nup_answer
-    ensures { λ r. ⌜ Called (convolveAnswer (namedAnswer edge «preserve_alpha») (matrixOf columns rows «target_x» «target_y» (was kernel) divisor bias edge «preserve_alpha») (was kernel) width height (was src) (was scratch)) r (convolved (matrixOf columns rows «target_x» «target_y» (was kernel) divisor bias edge «preserve_alpha») (was kernel) width height (was src)) src ⌝ }
-    ensures { λ r. ⌜ Cleared 0 (convolveAnswer (namedAnswer edge «preserve_alpha») (matrixOf columns rows «target_x» «target_y» (was kernel) divisor bias edge «preserve_alpha») (was kernel) width height (was src) (was scratch)) scratch ⌝ }
+    ensures { λ r. ⌜ Convolved (namedEdge edge «preserve_alpha») (matrixOf columns rows «target_x» «target_y» (was kernel) divisor bias edge «preserve_alpha») kernel width height r src scratch ⌝ }
 {
     let matrix = ConvolveMatrix {
         columns,

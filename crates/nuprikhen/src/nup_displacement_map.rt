@@ -5,13 +5,9 @@ use displacement_map::ColorChannel;
 use sheet::Answer;
 use sheet::Refusal;
 ghost use mathlib.Core.Path.{_≡_};
-ghost use mathlib.Core.List.{[], _∷_};
-ghost use Rattle.sheet.specs.Answer.{refusal, andThen};
 ghost use Rattle.sheet.specs.Contract.{was, Filtered};
-ghost use Rattle.sheet.specs.Size.{sheetsAnswer};
-ghost use Rattle.displacement_map.specs.DisplacementMap.{scalesAnswer, displaced};
-ghost use Rattle.nuprikhen.specs.Called.{Called};
-ghost use Rattle.nuprikhen.specs.Channels.{channelOf, displacementAnswer};
+ghost use Rattle.displacement_map.specs.DisplacementMap.{displaced};
+ghost use Rattle.nuprikhen.specs.Channels.{channelOf, namedChannels, displacementAnswer, Displaced};
 
 fn channel_of(number: u8) -> ColorChannel
     ensures { λ r. ⌜ r ≡ channelOf number ⌝ }
@@ -27,28 +23,24 @@ fn channel_of(number: u8) -> ColorChannel
     }
 }
 
-// The answer where a number names no channel, by the lengths of the sheets: refused after the other tests.
-fn unnamed(
-    sx: f32,
-    sy: f32,
-    scale: f32,
-    width: usize,
-    height: usize,
-    src: usize,
-    map: usize,
-    dest: usize,
-) -> Answer
-    ensures { λ r. ⌜ r ≡ andThen (andThen (sheetsAnswer width height (src ∷ map ∷ dest ∷ [])) (scalesAnswer sx sy scale)) (refusal 5) ⌝ }
+// Test 5 of the two numbers.
+fn test_named(x: u8, y: u8) -> Answer
+    ensures { λ r. ⌜ r ≡ namedChannels x y ⌝ }
 {
-    let sheets = sheet::test3(width, height, src, map, dest);
-    let tested = sheet::and_then(sheets, displacement_map::test(sx, sy, scale));
-    sheet::and_then(tested, Answer::Refused(Refusal::Range, 0))
+    if 3 < x {
+        return Answer::Refused(Refusal::Range, 0);
+    }
+    if 3 < y {
+        return Answer::Refused(Refusal::Range, 0);
+    }
+    Answer::Done
 }
 
-// A displacement by the channels' numbers.
-fn apply_numbered(
-    x_channel: u8,
-    y_channel: u8,
+// The filter, where the two numbers were tested to be `named`; they are refused after the other tests.
+fn apply_named(
+    named: Answer,
+    xs: ColorChannel,
+    ys: ColorChannel,
     sx: f32,
     sy: f32,
     scale: f32,
@@ -58,34 +50,13 @@ fn apply_numbered(
     map: &[u8],
     dest: &mut [u8],
 ) -> Answer
-    ensures { λ r. ⌜ Filtered (displacementAnswer «x_channel» «y_channel» sx sy scale width height (was src) (was map) (was dest)) r (displaced (channelOf «x_channel») (channelOf «y_channel») sx sy scale width height (was src) (was map)) dest ⌝ }
+    ensures { λ r. ⌜ Filtered (displacementAnswer named sx sy scale width height (was src) (was map) (was dest)) r (displaced xs ys sx sy scale width height (was src) (was map)) dest ⌝ }
 {
-    if 3 < x_channel {
-        return unnamed(
-            sx,
-            sy,
-            scale,
-            width,
-            height,
-            src.len(),
-            map.len(),
-            dest.len(),
-        );
-    }
-    if 3 < y_channel {
-        return unnamed(
-            sx,
-            sy,
-            scale,
-            width,
-            height,
-            src.len(),
-            map.len(),
-            dest.len(),
-        );
-    }
-    let xs = channel_of(x_channel);
-    let ys = channel_of(y_channel);
+    let Answer::Done = named else {
+        let sheets = sheet::test3(width, height, src.len(), map.len(), dest.len());
+        let tested = sheet::and_then(sheets, displacement_map::test(sx, sy, scale));
+        return sheet::and_then(tested, named);
+    };
     displacement_map::apply(xs, ys, sx, sy, scale, width, height, src, map, dest)
 }
 
@@ -103,11 +74,12 @@ pub extern "C" fn nup_displacement_map(
     map: &[u8],
     dest: &mut [u8],
 ) -> nup_answer
-    ensures { λ r. ⌜ Called (displacementAnswer «x_channel» «y_channel» sx sy scale width height (was src) (was map) (was dest)) r (displaced (channelOf «x_channel») (channelOf «y_channel») sx sy scale width height (was src) (was map)) dest ⌝ }
+    ensures { λ r. ⌜ Displaced «x_channel» «y_channel» sx sy scale width height src map r dest ⌝ }
 {
-    told(apply_numbered(
-        x_channel,
-        y_channel,
+    told(apply_named(
+        test_named(x_channel, y_channel),
+        channel_of(x_channel),
+        channel_of(y_channel),
         sx,
         sy,
         scale,

@@ -4,10 +4,7 @@ use crate::told;
 use lighting::Color;
 use lighting::LightSource;
 ghost use mathlib.Core.Path.{_≡_};
-ghost use Rattle.sheet.specs.Contract.{was};
-ghost use Rattle.lighting.specs.Lighting.{diffuseAnswer, specularAnswer, answer, lit, diffuse, specular};
-ghost use Rattle.nuprikhen.specs.Called.{Called};
-ghost use Rattle.nuprikhen.specs.Numbers.{lightOf, colorOf};
+ghost use Rattle.nuprikhen.specs.Lights.{lightOf, colorOf, DiffuseLit, SpecularLit};
 
 // A number that names no light stands for a direction of no length, which is refused with the ranges.
 fn light_of(light: u8, x: f32, y: f32, z: f32) -> LightSource
@@ -39,7 +36,7 @@ pub extern "C" fn nup_diffuse_lighting(
     src: &[u8],
     dest: &mut [u8],
 ) -> nup_answer
-    ensures { λ r. ⌜ Called (answer (diffuseAnswer (lightOf light x y z) «surface_scale» «diffuse_constant») width height (was src) (was dest)) r (lit (diffuse (lightOf light x y z) «surface_scale» «diffuse_constant» (colorOf red green blue)) width height (was src)) dest ⌝ }
+    ensures { λ r. ⌜ DiffuseLit (lightOf light x y z) «surface_scale» «diffuse_constant» (colorOf red green blue) width height src r dest ⌝ }
 {
     told(lighting::diffuse_lighting(
         light_of(light, x, y, z),
@@ -71,7 +68,7 @@ pub extern "C" fn nup_specular_lighting(
     src: &[u8],
     dest: &mut [u8],
 ) -> nup_answer
-    ensures { λ r. ⌜ Called (answer (specularAnswer (lightOf light x y z) «surface_scale» «specular_constant» «specular_exponent») width height (was src) (was dest)) r (lit (specular (lightOf light x y z) «surface_scale» «specular_constant» (colorOf red green blue)) width height (was src)) dest ⌝ }
+    ensures { λ r. ⌜ SpecularLit (lightOf light x y z) «surface_scale» «specular_constant» «specular_exponent» (colorOf red green blue) width height src r dest ⌝ }
 {
     told(lighting::specular_lighting(
         light_of(light, x, y, z),

@@ -7,12 +7,11 @@ use turbulence::Turbulence;
 ghost use mathlib.Core.Path.{_≡_};
 ghost use Rattle.sheet.specs.Contract.{was, Filtered};
 ghost use Rattle.turbulence.specs.Turbulence.{drawn};
-ghost use Rattle.nuprikhen.specs.Called.{Called};
-ghost use Rattle.nuprikhen.specs.Noise.{turbulenceOf, numbersAnswer, turbulenceAnswer};
+ghost use Rattle.nuprikhen.specs.Noise.{turbulenceOf, namedKind, noiseAnswer, Drawn};
 
 // Whether both numbers name a case: no stitching, and one of the two kinds.
-fn test_numbers(stitch: u8, kind: u8) -> Answer
-    ensures { λ r. ⌜ r ≡ numbersAnswer stitch kind ⌝ }
+fn test_named(stitch: u8, kind: u8) -> Answer
+    ensures { λ r. ⌜ r ≡ namedKind stitch kind ⌝ }
 {
     if 0 < stitch {
         return Answer::Refused(Refusal::Range, 0);
@@ -24,7 +23,7 @@ fn test_numbers(stitch: u8, kind: u8) -> Answer
 }
 
 // Turbulence where both numbers name a case; others are refused after the other tests.
-fn apply_numbered(
+fn apply_named(
     stitch: u8,
     kind: u8,
     t: Turbulence,
@@ -32,11 +31,11 @@ fn apply_numbered(
     height: usize,
     dest: &mut [u8],
 ) -> Answer
-    ensures { λ r. ⌜ Filtered (turbulenceAnswer stitch kind t width height (was dest)) r (drawn t width height) dest ⌝ }
+    ensures { λ r. ⌜ Filtered (noiseAnswer stitch kind t width height (was dest)) r (drawn t width height) dest ⌝ }
 {
     let sheets = sheet::test1(width, height, dest.len());
     let tested = sheet::and_then(sheets, turbulence::test(t));
-    let named = sheet::and_then(tested, test_numbers(stitch, kind));
+    let named = sheet::and_then(tested, test_named(stitch, kind));
     let Answer::Done = named else {
         return named;
     };
@@ -60,7 +59,7 @@ pub extern "C" fn nup_turbulence(
     kind: u8,
     dest: &mut [u8],
 ) -> nup_answer
-    ensures { λ r. ⌜ Called (turbulenceAnswer «stitch_tiles» kind (turbulenceOf «offset_x» «offset_y» sx sy «base_frequency_x» «base_frequency_y» «num_octaves» seed kind) width height (was dest)) r (drawn (turbulenceOf «offset_x» «offset_y» sx sy «base_frequency_x» «base_frequency_y» «num_octaves» seed kind) width height) dest ⌝ }
+    ensures { λ r. ⌜ Drawn «stitch_tiles» kind (turbulenceOf «offset_x» «offset_y» sx sy «base_frequency_x» «base_frequency_y» «num_octaves» seed kind) width height r dest ⌝ }
 {
     let t = Turbulence {
         offset_x: offset_x,
@@ -73,5 +72,5 @@ pub extern "C" fn nup_turbulence(
         seed: seed,
         fractal_noise: kind == 1,
     };
-    told(apply_numbered(stitch_tiles, kind, t, width as usize, height as usize, dest))
+    told(apply_named(stitch_tiles, kind, t, width as usize, height as usize, dest))
 }

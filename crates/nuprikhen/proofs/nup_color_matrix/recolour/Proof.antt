@@ -5,6 +5,9 @@ use Rattle.nuprikhen.proofs.Calls.{filtered-called}
 use Rattle.nuprikhen.proofs.nup_color_matrix.recolour.Statement.{statement}
 use Rattle.nuprikhen.proofs.nup_color_matrix.recolour.Tie as tie
 
+slice-aggregate-apply : tie.Need-slice-aggregate-apply
+slice-aggregate-apply c = search needs
+
 apply-requires : tie.Need-apply-requires
 apply-requires c κs = search needs
 
@@ -18,4 +21,5 @@ returns : tie.Need-returns
 returns c = filtered-called refl refl (c .before .before .before .apply .ensures) (c .told .ensures)
 
 pub recolour-spec : {M : Type 1} → statement M
-recolour-spec = tie.close (tie.spec apply-requires told-requires same-length returns)
+recolour-spec =
+    tie.close (tie.spec slice-aggregate-apply apply-requires told-requires same-length returns)

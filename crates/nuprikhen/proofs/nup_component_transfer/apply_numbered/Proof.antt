@@ -46,9 +46,13 @@ enum-told-4 c = search needs
 returns-2 : tie.Need-returns-2
 unfolding answer
 returns-2 c =
+    let the-test-numbered = c .before .before .before .before .before .before .test-numbered in
+    let the-test-numbered2 = c .before .before .before .before .before .test-numbered2 in
+    let the-test1 = c .before .before .before .before .before .before .before .before .before .test1 in
+    let the-enum-told = c .before .before .before .before .before .before .before .enum-told in
     let a = c .before .before .before .before .before .before .before .before .before .before .before .before .before .before .before .args in
-    let e = all-tested (a .red) (a .green) (a .blue) (a .alpha) _ _ _ _ (c .before .before .of-all .ensures) (c .before .before .before .before .before .before .test-numbered .ensures) (c .before .before .before .before .before .test-numbered2 .ensures) (c .before .before .before .before .test-numbered3 .ensures) (c .before .before .before .test-numbered4 .ensures) in
-    filtered-refused (next-test (c .before .before .before .before .before .before .before .before .before .test1 .ensures) (c .before .before .before .before .before .before .before .enum-told .given .1) e) (refusing (c .before .before .of-all .result) (c .before .match2 .keys2)) refl
+    let e = all-tested (a .red) (a .green) (a .blue) (a .alpha) _ _ _ _ (c .before .before .of-all .ensures) (the-test-numbered .ensures) (the-test-numbered2 .ensures) (c .before .before .before .before .test-numbered3 .ensures) (c .before .before .before .test-numbered4 .ensures) in
+    filtered-refused (next-test (the-test1 .ensures) (the-enum-told .given .1) e) (refusing (c .before .before .of-all .result) (c .before .match2 .keys2)) refl
 
 function-of-requires : tie.Need-function-of-requires
 function-of-requires c κs = search needs
@@ -70,9 +74,18 @@ same-length c = search needs
 
 returns-3 : tie.Need-returns-3
 returns-3 c =
+    let the-of-all = c .before .before .before .before .before .before .before .before .before .before .of-all in
+    let the-test-numbered = c .before .before .before .before .before .before .before .before .before .before .before .before .before .before .test-numbered in
+    let the-test-numbered2 = c .before .before .before .before .before .before .before .before .before .before .before .before .before .test-numbered2 in
+    let the-test-numbered3 = c .before .before .before .before .before .before .before .before .before .before .before .before .test-numbered3 in
+    let the-test-numbered4 = c .before .before .before .before .before .before .before .before .before .before .before .test-numbered4 in
+    let the-enum-told3 = c .before .before .before .before .before .before .before .before .enum-told3 in
+    let the-function-of = c .before .before .before .before .before .before .before .function-of in
+    let the-function-of2 = c .before .before .before .before .before .before .function-of2 in
+    let the-function-of3 = c .before .before .before .before .before .function-of3 in
     let a = c .before .before .before .before .before .before .before .before .before .before .before .before .before .before .before .before .before .before .before .before .before .before .before .args in
-    let e = all-tested (a .red) (a .green) (a .blue) (a .alpha) _ _ _ _ (c .before .before .before .before .before .before .before .before .before .before .of-all .ensures) (c .before .before .before .before .before .before .before .before .before .before .before .before .before .before .test-numbered .ensures) (c .before .before .before .before .before .before .before .before .before .before .before .before .before .test-numbered2 .ensures) (c .before .before .before .before .before .before .before .before .before .before .before .before .test-numbered3 .ensures) (c .before .before .before .before .before .before .before .before .before .before .before .test-numbered4 .ensures) in
-    let same = all-same (a .red) (a .green) (a .blue) (a .alpha) _ _ _ _ e (c .before .before .before .before .before .before .before .before .enum-told3 .given .1) (c .before .before .before .before .before .before .before .function-of .ensures) (c .before .before .before .before .before .before .function-of2 .ensures) (c .before .before .before .before .before .function-of3 .ensures) (c .before .before .before .before .function-of4 .ensures) (a .width) (a .height) (a .src .now) in
+    let e = all-tested (a .red) (a .green) (a .blue) (a .alpha) _ _ _ _ (the-of-all .ensures) (the-test-numbered .ensures) (the-test-numbered2 .ensures) (the-test-numbered3 .ensures) (the-test-numbered4 .ensures) in
+    let same = all-same (a .red) (a .green) (a .blue) (a .alpha) _ _ _ _ e (the-enum-told3 .given .1) (the-function-of .ensures) (the-function-of2 .ensures) (the-function-of3 .ensures) (c .before .before .before .before .function-of4 .ensures) (a .width) (a .height) (a .src .now) in
     filtered-as refl refl (same .0) (same .1) (c .before .before .apply .ensures)
 
 pub apply-numbered-spec : {M : Type 1} → statement M

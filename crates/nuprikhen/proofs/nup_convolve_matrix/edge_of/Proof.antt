@@ -1,6 +1,6 @@
 -- Each number is its case of the definition.
 use borrow.Author.Needs.{needs}
-use Rattle.nuprikhen.proofs.Naming.{neither}
+use Rattle.nuprikhen.proofs.Edges.{neither}
 use Rattle.nuprikhen.proofs.nup_convolve_matrix.edge_of.Statement.{statement}
 use Rattle.nuprikhen.proofs.nup_convolve_matrix.edge_of.Tie as tie
 

@@ -28,7 +28,11 @@ same-length-2 c = search needs
 
 returns : tie.Need-returns
 returns c =
-    let done = rw (c .before .before .before .before .before .before .before .before .before .before .all-of .ensures, c .before .before .before .before .before .before .before .before .before .edge-of .ensures, c .before .before .before .before .before .before .before .before .test-named .ensures) at (c .before .before .before .before .before .apply-named .ensures) in
+    let the-all-of = c .before .before .before .before .before .before .before .before .before .before .all-of in
+    let the-edge-of = c .before .before .before .before .before .before .before .before .before .edge-of in
+    let the-test-named = c .before .before .before .before .before .before .before .before .test-named in
+    let the-apply-named = c .before .before .before .before .before .apply-named in
+    let done = rw (the-all-of .ensures, the-edge-of .ensures, the-test-named .ensures) at (the-apply-named .ensures) in
     (filtered-called refl refl (done .0) (c .told .ensures), holds-as refl refl refl refl (done .1))
 
 pub nup-convolve-matrix-spec : {M : Type 1} → statement M

@@ -19,7 +19,8 @@ same-length c = search needs
 
 returns : tie.Need-returns
 returns c =
-    let light = c .before .before .before .before .before .light-of .ensures in
+    let the-light-of = c .before .before .before .before .before .light-of in
+    let light = the-light-of .ensures in
     let done = rw light at (c .before .before .before .specular-lighting .ensures) in
     filtered-called refl refl done (c .told .ensures)
 

@@ -7,8 +7,8 @@ use Rattle.nuprikhen.proofs.Calls.{filtered-called}
 use Rattle.nuprikhen.proofs.nup_turbulence.nup_turbulence.Statement.{statement}
 use Rattle.nuprikhen.proofs.nup_turbulence.nup_turbulence.Tie as tie
 
-apply-numbered-requires : tie.Need-apply-numbered-requires
-apply-numbered-requires c κs = search needs
+apply-named-requires : tie.Need-apply-named-requires
+apply-named-requires c κs = search needs
 
 told-requires : tie.Need-told-requires
 told-requires c κs = search needs
@@ -20,8 +20,8 @@ returns : tie.Need-returns
 returns c =
     let entry = c .before .before .before .before .before .before in
     let e = toZ-ofZ w32 (entry .args .seed) (entry .fits .seed) in
-    filtered-called refl refl (rw e at (c .before .before .before .apply-numbered .ensures)) (c .told .ensures)
+    filtered-called refl refl (rw e at (c .before .before .before .apply-named .ensures)) (c .told .ensures)
 
 pub nup-turbulence-spec : {M : Type 1} → statement M
 nup-turbulence-spec =
-    tie.close (tie.spec apply-numbered-requires told-requires same-length returns)
+    tie.close (tie.spec apply-named-requires told-requires same-length returns)
