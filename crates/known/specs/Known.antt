@@ -1,5 +1,5 @@
 -- Document 01's checks with known results, those that it marks: a row is what the definitions give, and what the document says.
-use Prim.Native.Nat.{ℕ, _*_}
+use Prim.Native.Nat.{ℕ, zero, suc, _*_}
 use lib.IntN.{ℤ, pos, negsuc}
 use mathlib.Core.Bool.{false}
 use mathlib.Core.List.{List, [], _∷_}
@@ -95,6 +95,12 @@ unfoldable pub states : ℕ → List ℕ
 unfolding next
 states s = next s ∷ next (next s) ∷ []
 
+-- the state so many steps after a state
+abbrev pub stateAfter : ℕ → ℕ → ℕ
+unfolding next
+stateAfter zero s = s
+stateAfter (suc n) s = stateAfter n (next s)
+
 abbrev pub white : Color
 white = record { red = 255; green = 255; blue = 255 }
 
@@ -130,6 +136,7 @@ table =
     ∷ (start (negsuc 2147483646), 2 ∷ [])  -- seed -2147483647
     ∷ (start (pos 2147483647), 2147483646 ∷ [])
     ∷ (states 1, 16807 ∷ 282475249 ∷ [])
+    ∷ (stateAfter 10000 1 ∷ [], 1043618065 ∷ [])
     ∷ (wrapped (negsuc 0) ∷ [], 255 ∷ [])  -- lattice -1
     ∷ (lighted (diffuseFrom (f32 0x3f80_0000)) 3, repeated 36 255)  -- direction (0, 0, 1)
     ∷ (lighted (specularFrom (f32 0x3f80_0000)) 3, repeated 36 255)

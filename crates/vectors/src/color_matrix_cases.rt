@@ -2,9 +2,9 @@
 use crate::called::Called;
 use crate::cases;
 use crate::cases::Case;
-use crate::reader;
 use color_matrix::ColorMatrix;
 use pool::Numbers;
+use stored::words;
 
 // No fewer than the parameters of a Matrix in the list.
 const POOL: usize = 64;
@@ -13,21 +13,45 @@ pub fn call(list: &[u8], case: Case, src: &mut [u8]) -> Called {
     let kind = cases::parameter(list, case, 0);
     if kind == 0 {
         matrix(list, case, src)
-    } else if kind == 1 {
-        let v = cases::float(list, case, 1);
-        apply(case, 2, ColorMatrix::Saturate(v), &[], src)
-    } else if kind == 2 {
-        let cosine = cases::float(list, case, 1);
-        let sine = cases::float(list, case, 2);
-        apply(case, 3, ColorMatrix::HueRotate(cosine, sine), &[], src)
-    } else if kind == 3 {
-        apply(case, 1, ColorMatrix::LuminanceToAlpha, &[], src)
+    } else if kind < 4 {
+        without_pool(list, case, kind, src)
     } else {
         Called::Unnamed
     }
 }
 
-// The pool is all of the parameters, the kind first.
+fn without_pool(list: &[u8], case: Case, kind: u32, src: &mut [u8]) -> Called {
+    if case.parameter_count != parameters(kind) {
+        return Called::Misread;
+    }
+    apply(case, matrix_of(list, case, kind), &[], src)
+}
+
+// How many parameters a kind without a pool has, itself the first.
+fn parameters(kind: u32) -> usize {
+    if kind == 1 {
+        2
+    } else if kind == 2 {
+        3
+    } else {
+        1
+    }
+}
+
+// The matrix of a kind without a pool.
+fn matrix_of(list: &[u8], case: Case, kind: u32) -> ColorMatrix {
+    if kind == 1 {
+        ColorMatrix::Saturate(cases::float(list, case, 1))
+    } else if kind == 2 {
+        let cosine = cases::float(list, case, 1);
+        let sine = cases::float(list, case, 2);
+        ColorMatrix::HueRotate(cosine, sine)
+    } else {
+        ColorMatrix::LuminanceToAlpha
+    }
+}
+
+// The pool is the parameters, the kind first.
 fn matrix(list: &[u8], case: Case, src: &mut [u8]) -> Called {
     let count = case.parameter_count;
     if count == 0 {
@@ -37,30 +61,14 @@ fn matrix(list: &[u8], case: Case, src: &mut [u8]) -> Called {
         return Called::Misread;
     }
     let mut pool = [0.0f32; POOL];
-    let numbers = &mut pool[..count];
-    reader::floats(list, case.parameters, numbers);
-    apply(
-        case,
-        count,
-        ColorMatrix::Matrix(Numbers {
-            start: 1,
-            count: (count - 1) as u32,
-        }),
-        numbers,
-        src,
-    )
+    words::floats(list, case.parameters, &mut pool);
+    let numbers = Numbers {
+        start: 1,
+        count: (count - 1) as u32,
+    };
+    apply(case, ColorMatrix::Matrix(numbers), &pool, src)
 }
 
-// Applies the matrix where the case has so many parameters.
-fn apply(
-    case: Case,
-    parameters: usize,
-    matrix: ColorMatrix,
-    pool: &[f32],
-    src: &mut [u8],
-) -> Called {
-    if !cases::has(case, parameters, 1) {
-        return Called::Misread;
-    }
+fn apply(case: Case, matrix: ColorMatrix, pool: &[f32], src: &mut [u8]) -> Called {
     Called::Answered(color_matrix::apply(matrix, pool, case.width, case.height, src))
 }

@@ -2,9 +2,9 @@
 use crate::called::Called;
 use crate::cases;
 use crate::cases::Case;
-use crate::reader;
 use component_transfer::TransferFunction;
 use pool::Numbers;
+use stored::words;
 ghost use Prim.Native.Nat.{_+_, _≤_};
 
 // No fewer than the numbers of a channel in the list.
@@ -78,7 +78,7 @@ pub fn call(list: &[u8], case: Case, src: &mut [u8]) -> Called {
     let g = channel_at(list, case, r.next);
     let b = channel_at(list, case, g.next);
     let a = channel_at(list, case, b.next);
-    if !cases::has(case, a.next, 1) {
+    if case.parameter_count != a.next {
         return Called::Misread;
     }
     if !is_named(r) {
@@ -107,7 +107,7 @@ fn apply(
     src: &mut [u8],
 ) -> Called {
     let mut pool = [0.0f32; 2056];
-    reader::floats(list, case.parameters, &mut pool);
+    words::floats(list, case.parameters, &mut pool);
     Called::Answered(component_transfer::apply(
         function(list, case, r),
         &pool,

@@ -4,7 +4,7 @@ use crate::cases;
 use crate::cases::Case;
 
 pub fn call(list: &[u8], case: Case, src1: &[u8], src2: &[u8], dest: &mut [u8]) -> Called {
-    if !cases::has(case, 4, 3) {
+    if case.parameter_count != 4 {
         return Called::Misread;
     }
     let k1 = cases::float(list, case, 0);

@@ -2,8 +2,9 @@
 // complement and a bool as 0 or 1.
 ghost use Prim.Native.Nat.{_<_};
 use crate::reader;
-use crate::tally;
-use crate::tally::Tally;
+use stored::tally;
+use stored::tally::Tally;
+use stored::words;
 
 // Runs every case and prints a line for each kind, and one for the kinds that there are not, if any came.
 pub fn replay() {
@@ -50,25 +51,25 @@ fn run(fd: i32, buf: &mut [u8]) -> [Tally; 6] {
 fn row_of(case: &[u8]) -> usize
     ensures { λ r. ⌜ r < 6 ⌝ }
 {
-    let kind = reader::word_at(case, 0);
+    let kind = words::nth_word(case, 0, 0);
     if kind < 5 { kind as usize } else { 5 }
 }
 
 // Whether the function of the case's kind gives the stored answer.
 fn agrees(case: &[u8]) -> bool {
-    let kind = reader::word_at(case, 0);
-    let x = reader::float(reader::word_at(case, 4));
-    let y = reader::float(reader::word_at(case, 8));
-    let z = reader::float(reader::word_at(case, 12));
-    answer(kind, x, y, z) == reader::signed(reader::word_at(case, 16))
+    let kind = words::nth_word(case, 0, 0);
+    let x = words::nth_float(case, 0, 1);
+    let y = words::nth_float(case, 0, 2);
+    let z = words::nth_float(case, 0, 3);
+    answer(kind, x, y, z) == words::nth_signed(case, 0, 4)
 }
 
 // What the function of the kind answers, a bool as 0 or 1; -1 for a kind that there is not.
-fn answer(kind: u32, x: f32, y: f32, z: f32) -> i64 {
+fn answer(kind: u32, x: f32, y: f32, z: f32) -> i32 {
     if kind == 0 {
-        floats::to_byte(x) as i64
+        floats::to_byte(x) as i32
     } else if kind == 1 {
-        wide(floats::round_to_i32(x))
+        floats::round_to_i32(x)
     } else if kind == 2 {
         flag(floats::near_zero(x))
     } else if kind == 3 {
@@ -80,10 +81,6 @@ fn answer(kind: u32, x: f32, y: f32, z: f32) -> i64 {
     }
 }
 
-fn flag(b: bool) -> i64 {
+fn flag(b: bool) -> i32 {
     if b { 1 } else { 0 }
-}
-
-fn wide(n: i32) -> i64 {
-    n as i64
 }

@@ -5,7 +5,7 @@ use crate::cases::Case;
 use morphology::MorphologyOperator;
 
 pub fn call(list: &[u8], case: Case, src: &mut [u8], scratch: &mut [u8]) -> Called {
-    if !cases::has(case, 3, 2) {
+    if case.parameter_count != 3 {
         return Called::Misread;
     }
     let operator = cases::parameter(list, case, 0);

@@ -1,0 +1,3 @@
+pub mod Patterns
+pub mod Rest
+pub mod Same

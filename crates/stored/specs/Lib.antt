@@ -1,0 +1,4 @@
+pub mod Words
+pub mod Parameters
+pub mod Tally
+pub mod Answers
