@@ -35,6 +35,8 @@ pub fn run(slow: bool) -> ExitCode {
     for (input, sheet) in [("noise", noise(SIDE)), ("card", card(SIDE))] {
         primitives(input, &sheet, slow);
     }
+    turbulence(SIDE);
+    turbulence(64);
     ExitCode::SUCCESS
 }
 
@@ -176,6 +178,7 @@ fn primitives(input: &str, sheet: &[u8], slow: bool) {
         component_transfer,
         convolve_matrix,
         displacement_map,
+        _,
         diffuse,
         specular,
     ] = &ALL;
@@ -218,6 +221,21 @@ fn primitives(input: &str, sheet: &[u8], slow: bool) {
         for (edge, name) in [(0, "None"), (1, "Duplicate"), (2, "Wrap")] {
             let what = format!("convolve {side} by {side}, {name}");
             primitive_row(convolve_matrix, &what, input, kernel(side, edge), sheet, 2);
+        }
+    }
+}
+
+/// It reads no sheet: on small ones the tables that a seed is drawn into cost the most.
+fn turbulence(side: u32) {
+    let primitive = ALL.iter().find(|p| p.name == "turbulence").unwrap();
+    let dest = vec![1; 4 * (side * side) as usize];
+    let input = format!("{side} x {side}");
+    for (kind, name) in [(0, "turbulence"), (1, "fractal noise")] {
+        for octaves in [1, 4, 8] {
+            let what = format!("{name}, octaves {octaves}");
+            let mut params: Vec<Param> = [0.0, 0.0, 1.0, 1.0, 0.05, 0.05].map(Param::double).into();
+            params.extend([octaves, 5, 0, kind].map(Param::Choice));
+            primitive_row(primitive, &what, &input, params, &dest, 1);
         }
     }
 }
@@ -282,9 +300,10 @@ fn primitive_row(
     sheet: &[u8],
     sheets: usize,
 ) {
+    let side = (sheet.len() / 4).isqrt() as u32;
     let case = Case {
-        width: SIDE,
-        height: SIDE,
+        width: side,
+        height: side,
         params,
         sheets: vec![sheet.to_vec(); sheets],
     };
@@ -303,5 +322,5 @@ fn primitive_row(
     let rust = least(&mut state, restore, |state| {
         primitive.run_rust(&case, state)
     });
-    row(what, input, (SIDE * SIDE) as usize, ours, rust);
+    row(what, input, sheet.len() / 4, ours, rust);
 }

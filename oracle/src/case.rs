@@ -8,6 +8,8 @@ pub enum Param {
     /// The number of an enum's case.
     Choice(u32),
     Float(u32),
+    /// A double's bits; in the stored lists its lower word, then its upper one.
+    Double(u64),
     /// Floats whose count is written before them.
     List(Vec<u32>),
     /// Floats up to the end of the parameters.
@@ -65,28 +67,52 @@ impl Param {
         Param::Float(x.to_bits())
     }
 
+    pub fn double(x: f64) -> Param {
+        Param::Double(x.to_bits())
+    }
+
     pub fn floats(xs: &[f32]) -> Vec<u32> {
         xs.iter().map(|x| x.to_bits()).collect()
     }
 
-    /// The floats of this parameter.
-    pub fn bits_mut(&mut self) -> &mut [u32] {
+    /// How many floats and doubles this parameter has.
+    pub fn numbers(&self) -> usize {
         match self {
-            Param::Choice(_) => &mut [],
-            Param::Float(bits) => std::slice::from_mut(bits),
-            Param::List(bits) | Param::Rest(bits) => bits,
+            Param::Choice(_) => 0,
+            Param::Float(_) | Param::Double(_) => 1,
+            Param::List(bits) | Param::Rest(bits) => bits.len(),
+        }
+    }
+
+    /// Puts the float of these bits, or the double of the same value, in the place of one number.
+    pub fn put(&mut self, at: usize, value: u32) {
+        match self {
+            Param::Choice(_) => {}
+            Param::Float(bits) => *bits = value,
+            Param::Double(bits) => *bits = widened(value),
+            Param::List(bits) | Param::Rest(bits) => bits[at] = value,
         }
     }
 
     fn write(&self, words: &mut Vec<u32>) {
         match self {
             Param::Choice(n) | Param::Float(n) => words.push(*n),
+            Param::Double(bits) => words.extend([*bits as u32, (*bits >> 32) as u32]),
             Param::List(bits) => {
                 words.push(bits.len() as u32);
                 words.extend(bits);
             }
             Param::Rest(bits) => words.extend(bits),
         }
+    }
+}
+
+/// The bits of the double of a float's value; a NaN keeps its sign and its payload.
+fn widened(bits: u32) -> u64 {
+    let x = f32::from_bits(bits);
+    match x.is_nan() {
+        true => (bits as u64 >> 31) << 63 | 0x7ff << 52 | (bits as u64 & 0x7f_ffff) << 29,
+        false => (x as f64).to_bits(),
     }
 }
 
@@ -102,6 +128,13 @@ impl Case {
         match self.params[i] {
             Param::Float(bits) => f32::from_bits(bits),
             _ => unreachable!("parameter {i} is no float"),
+        }
+    }
+
+    pub fn double(&self, i: usize) -> f64 {
+        match self.params[i] {
+            Param::Double(bits) => f64::from_bits(bits),
+            _ => unreachable!("parameter {i} is no double"),
         }
     }
 

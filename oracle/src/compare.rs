@@ -180,6 +180,7 @@ fn describe(case: &Case) -> String {
         let param = match param {
             Param::Choice(n) => format!("choice {n}"),
             Param::Float(bits) => number(bits),
+            Param::Double(bits) => format!("{:?} ({bits:#018x})", f64::from_bits(*bits)),
             Param::List(all) | Param::Rest(all) => {
                 format!(
                     "{} numbers: {}",

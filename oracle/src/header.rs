@@ -16,7 +16,7 @@ pub struct Param {
 }
 
 /// The types of the header, and the same in Rust.
-pub const TYPES: [(&str, &str); 11] = [
+pub const TYPES: [(&str, &str); 14] = [
     ("uint8_t", "u8"),
     ("uint32_t", "u32"),
     ("size_t", "usize"),
@@ -25,8 +25,11 @@ pub const TYPES: [(&str, &str); 11] = [
     ("double", "f64"),
     ("const uint8_t *", "*const u8"),
     ("const float *", "*const f32"),
+    ("const double *", "*const f64"),
     ("uint8_t *", "*mut u8"),
     ("int32_t *", "*mut i32"),
+    ("float *", "*mut f32"),
+    ("double *", "*mut f64"),
     ("nup_answer", "Answer"),
 ];
 

@@ -14,7 +14,7 @@ pub struct Leaf {
     pub check: fn(&mut Rng, bool) -> Result<(), String>,
 }
 
-pub const ALL: [Leaf; 4] = [
+pub const ALL: [Leaf; 7] = [
     Leaf {
         name: "to_bytes",
         refuses: true,
@@ -24,6 +24,21 @@ pub const ALL: [Leaf; 4] = [
         name: "round_to_i32s",
         refuses: true,
         check: round_to_i32s,
+    },
+    Leaf {
+        name: "sqrt32",
+        refuses: true,
+        check: sqrt32,
+    },
+    Leaf {
+        name: "sqrt64",
+        refuses: true,
+        check: sqrt64,
+    },
+    Leaf {
+        name: "to_f32s",
+        refuses: true,
+        check: to_f32s,
     },
     Leaf {
         name: "copy",
@@ -36,6 +51,28 @@ pub const ALL: [Leaf; 4] = [
         check: clear,
     },
 ];
+
+/// Whether two results are the same. A NaN is a NaN: neither the Rust nor the library says which pattern it has.
+pub trait Same: PartialEq {
+    fn same(&self, other: &Self) -> bool {
+        self == other
+    }
+}
+
+impl Same for u8 {}
+impl Same for i32 {}
+
+impl Same for f32 {
+    fn same(&self, other: &f32) -> bool {
+        self.to_bits() == other.to_bits() || self.is_nan() && other.is_nan()
+    }
+}
+
+impl Same for f64 {
+    fn same(&self, other: &f64) -> bool {
+        self.to_bits() == other.to_bits() || self.is_nan() && other.is_nan()
+    }
+}
 
 const DONE: Answer = Answer { number: 0, step: 0 };
 const REFUSED: Answer = Answer { number: 2, step: 0 };
@@ -52,6 +89,42 @@ fn floats(rng: &mut Rng, count: usize) -> Vec<f32> {
     (0..count).map(|_| draw(rng)).collect()
 }
 
+/// A double: any pattern, or about a float, the middle between two, a power of two, a square, or the square of a
+/// middle between two doubles.
+pub fn double(rng: &mut Rng) -> f64 {
+    let power = |exponent: u64| f64::from_bits(exponent << 52);
+    let about = match rng.below(8) {
+        0 => return f64::from_bits(rng.word()),
+        1 => return f64::from_bits(rng.word() >> 1),
+        2 => {
+            let bits = rng.bits();
+            let next = bits.wrapping_add(rng.below(2));
+            [bits, next]
+                .map(|bits| f32::from_bits(bits) as f64 / 2.0)
+                .iter()
+                .sum()
+        }
+        // Below 2^-126, where floats lose digits.
+        3 => (rng.word() >> 11) as f64 * power(1023 - 126 - 53 - rng.below(26) as u64),
+        4 => {
+            let root = (rng.word() >> (11 + rng.below(40))) as f64;
+            root * root
+        }
+        5 => {
+            // (n + 1/2)^2 is n (n + 1) + 1/4.
+            let n = (rng.word() >> 11 | 1 << 52) as u128;
+            (n * (n + 1)) as f64
+        }
+        6 => power(rng.below(2047) as u64),
+        _ => (rng.bits() as f64 - 2147483648.0) * rng.unit() as f64,
+    };
+    f64::from_bits(
+        about
+            .to_bits()
+            .wrapping_add_signed(rng.between(-2, 2) as i64),
+    )
+}
+
 /// The length of what is written: the same, or another where the call must be refused.
 fn lengths(rng: &mut Rng, refused: bool) -> (usize, usize) {
     let n: usize = rng.pick(&[0, 1, 2, 3, 7, 8, 31, 64, 65, 200]);
@@ -64,7 +137,7 @@ fn lengths(rng: &mut Rng, refused: bool) -> (usize, usize) {
 }
 
 /// Compares what one call did with what `leaf` makes of each element.
-fn check<A: Copy + std::fmt::Debug, B: Copy + PartialEq + std::fmt::Debug>(
+fn check<A: Copy + std::fmt::Debug, B: Copy + Same + std::fmt::Debug>(
     xs: &[A],
     out: Lent<B>,
     leaf: fn(A) -> B,
@@ -80,14 +153,11 @@ fn check<A: Copy + std::fmt::Debug, B: Copy + PartialEq + std::fmt::Debug>(
         before
     };
     let right = answer == if same { DONE } else { REFUSED };
-    if right && out.now() == expected && out.kept() {
+    let mut pairs = out.now().iter().zip(&expected);
+    let at = pairs.position(|(ours, rust)| !ours.same(rust));
+    if right && at.is_none() && out.kept() {
         return Ok(());
     }
-    let at = out
-        .now()
-        .iter()
-        .zip(&expected)
-        .position(|(ours, rust)| ours != rust);
     Err(match at {
         Some(at) if right && same => {
             format!(
@@ -127,6 +197,37 @@ fn round_to_i32s(rng: &mut Rng, refused: bool) -> Result<(), String> {
         |xs, out| unsafe {
             ours::nup_round_to_i32s(xs.as_ptr(), xs.len(), out.as_mut_ptr(), out.len())
         },
+    )
+}
+
+fn doubles(rng: &mut Rng, count: usize) -> Vec<f64> {
+    (0..count).map(|_| double(rng)).collect()
+}
+
+fn sqrt32(rng: &mut Rng, refused: bool) -> Result<(), String> {
+    let (n, m) = lengths(rng, refused);
+    let out = Lent::new(&vec![0.5; m], -1.0, rng.below(4) as usize);
+    check(&floats(rng, n), out, f32::sqrt, |xs, out| unsafe {
+        ours::nup_sqrt32(xs.as_ptr(), xs.len(), out.as_mut_ptr(), out.len())
+    })
+}
+
+fn sqrt64(rng: &mut Rng, refused: bool) -> Result<(), String> {
+    let (n, m) = lengths(rng, refused);
+    let out = Lent::new(&vec![0.5; m], -1.0, rng.below(4) as usize);
+    check(&doubles(rng, n), out, f64::sqrt, |xs, out| unsafe {
+        ours::nup_sqrt64(xs.as_ptr(), xs.len(), out.as_mut_ptr(), out.len())
+    })
+}
+
+fn to_f32s(rng: &mut Rng, refused: bool) -> Result<(), String> {
+    let (n, m) = lengths(rng, refused);
+    let out = Lent::new(&vec![0.5; m], -1.0, rng.below(4) as usize);
+    check(
+        &doubles(rng, n),
+        out,
+        |x| x as f32,
+        |xs, out| unsafe { ours::nup_to_f32s(xs.as_ptr(), xs.len(), out.as_mut_ptr(), out.len()) },
     )
 }
 

@@ -11,36 +11,36 @@ use oracle::{bench, compare, floats, patterns, recipe, stored, unproved};
 const HELP: &str = "\
 usage: oracle COMMAND
 
-  write DIR                       write the stored lists: floats.bin, recipes.bin and a NAME.bin for each
-                                  primitive
+  write CRATES                    write the stored lists below the folder of the crates: vectors/data/floats.bin
+                                  and a NAME.bin for each primitive, and recipes/data/recipes.bin
   compare [NAME] [--cases N] [--seed S]
                                   compare the library with the Rust and the table of refusals, N cases
                                   each (20,000), drawn from the seed S, up to 16 hexadecimal digits
-  patterns [--one-in N]           compare the two float leaves over all 2^32 patterns, or over one
-                                  block of 2^20 in N (N up to 4,096)
+  patterns [NAME] [--one-in N]    compare the float leaves: those of an f32 over all 2^32 patterns, those
+                                  of an f64 over every boundary and drawn ones, 100,663,296 each; or
+                                  over one block of 2^20 in N (N up to 4,096)
   bench [--slow]                  measure the library beside the Rust, as a Markdown table;
                                   --slow: morphology at radius 40 too
   unproved                        print the C functions over those of an unproved program, for ./edits
 
 compare, patterns and bench use target/staticlib/libnuprikhen.a of the repository; build it first
 (rt staticlib nuprikhen) and run this program by `cargo run --release --`, which links it.
-Names: to_bytes round_to_i32s copy clear morphology color_matrix composite component_transfer
-convolve_matrix displacement_map diffuse_lighting specular_lighting.
+Names: to_bytes round_to_i32s sqrt32 sqrt64 to_f32s copy clear morphology color_matrix composite component_transfer
+convolve_matrix displacement_map turbulence diffuse_lighting specular_lighting.
 Status: 0 no difference, 1 a difference or a library that cannot be called, 2 a wrong command.";
 
 fn main() -> ExitCode {
     let args: Vec<String> = env::args().skip(1).collect();
     let words: Vec<&str> = args.iter().map(String::as_str).collect();
     match words[..] {
-        ["write", dir] => status(write(Path::new(dir)).map_err(|e| format!("{dir}: {e}"))),
+        ["write", crates] => status(write(Path::new(crates)).map_err(|e| format!("{crates}: {e}"))),
         ["compare", ref rest @ ..] => match wanted(rest) {
             Some(wanted) => status(compare::run(&wanted)),
             None => wrong(),
         },
-        ["patterns"] => status(patterns::run(1)),
-        ["patterns", "--one-in", part] => match part.parse() {
-            Ok(part @ 1..=4096) => status(patterns::run(part)),
-            _ => wrong(),
+        ["patterns", ref rest @ ..] => match blocks(rest) {
+            Some((name, part)) => status(patterns::run(name, part)),
+            None => wrong(),
         },
         ["bench"] => bench::run(false),
         ["bench", "--slow"] => bench::run(true),
@@ -74,17 +74,31 @@ fn status(result: Result<(), String>) -> ExitCode {
     }
 }
 
-fn write(dir: &Path) -> std::io::Result<()> {
-    fs::create_dir_all(dir)?;
-    fs::write(dir.join("floats.bin"), floats::bytes())?;
-    fs::write(dir.join("recipes.bin"), recipe::list())?;
+fn write(crates: &Path) -> std::io::Result<()> {
+    let (vectors, recipes) = (crates.join("vectors/data"), crates.join("recipes/data"));
+    fs::create_dir_all(&vectors)?;
+    fs::create_dir_all(&recipes)?;
+    fs::write(recipes.join("recipes.bin"), recipe::list())?;
+    fs::write(vectors.join("floats.bin"), floats::bytes())?;
     for primitive in &ALL {
-        fs::write(
-            dir.join(format!("{}.bin", primitive.name)),
-            stored::list(primitive),
-        )?;
+        let name = format!("{}.bin", primitive.name);
+        fs::write(vectors.join(name), stored::list(primitive))?;
     }
     Ok(())
+}
+
+/// The leaf that `patterns` is asked for, or all, and one block in how many.
+fn blocks<'a>(words: &[&'a str]) -> Option<(Option<&'a str>, u32)> {
+    let (name, rest) = match words {
+        [name, rest @ ..] if !name.starts_with('-') => (Some(*name), rest),
+        _ => (None, words),
+    };
+    let part = match rest {
+        [] => 1,
+        ["--one-in", part] => part.parse().ok().filter(|n| (1..=4096).contains(n))?,
+        _ => return None,
+    };
+    Some((name, part))
 }
 
 fn wanted(words: &[&str]) -> Option<Wanted> {

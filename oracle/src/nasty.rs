@@ -1,6 +1,6 @@
 //! Sizes, sheets and numbers that are awkward on purpose.
 
-use crate::case::Case;
+use crate::case::{Case, Param};
 use crate::rng::Rng;
 use crate::table::{Range, SIDE};
 
@@ -104,6 +104,29 @@ fn any_float(rng: &mut Rng, (least, most): Range) -> f32 {
     }
 }
 
+/// A double inside the range, ends included.
+pub fn double(rng: &mut Rng, range: Range) -> f64 {
+    loop {
+        let x = any_double(rng, range);
+        if range.0 as f64 <= x && x <= range.1 as f64 {
+            return x;
+        }
+    }
+}
+
+fn any_double(rng: &mut Rng, range: Range) -> f64 {
+    let (least, most) = (range.0 as f64, range.1 as f64);
+    let fine = |rng: &mut Rng| (rng.word() >> 11) as f64 / (1u64 << 53) as f64;
+    match rng.below(8) {
+        0 => rng.pick(&[least, least.next_up(), most, most.next_down()]),
+        1 => f64::from_bits(rng.pick(&[1, 4, 5, (1 << 52) - 1, 1 << 52])),
+        2 => fine(rng),
+        3 | 4 => least + (most - least) * fine(rng),
+        5 => f64::from_bits(rng.word()),
+        _ => any_float(rng, range) as f64,
+    }
+}
+
 /// A radius: whole numbers, ties and their neighbours, mostly about the size of the sheet.
 pub fn radius(rng: &mut Rng, side: u32) -> f32 {
     let whole = rng.below(side + 2) as f32;
@@ -116,16 +139,16 @@ pub fn radius(rng: &mut Rng, side: u32) -> f32 {
     }
 }
 
-/// Spoils one thing that every primitive has: a size, a length or a float.
+/// Spoils one thing that every primitive has: a size, a length or a number.
 pub fn spoil(rng: &mut Rng, case: &mut Case, limits: Limits) {
     match rng.below(4) {
         0 => spoil_size(rng, case),
         1 => spoil_length(rng, case),
         2 => {
             let values = not_finite(rng, limits);
-            spoil_float(rng, case, &values);
+            spoil_number(rng, case, &values);
         }
-        _ => spoil_float(rng, case, &OUTSIDE.map(f32::to_bits)),
+        _ => spoil_number(rng, case, &OUTSIDE.map(f32::to_bits)),
     }
 }
 
@@ -178,22 +201,19 @@ fn spoil_length(rng: &mut Rng, case: &mut Case) {
     }
 }
 
-/// Puts one of the values in the place of one float, if there is a float.
-fn spoil_float(rng: &mut Rng, case: &mut Case, values: &[u32]) {
-    let count: usize = case
-        .params
-        .iter_mut()
-        .map(|param| param.bits_mut().len())
-        .sum();
-    if count > 0 {
-        let at = rng.below(count as u32) as usize;
-        let value = rng.pick(values);
-        *case
-            .params
-            .iter_mut()
-            .flat_map(|param| param.bits_mut())
-            .nth(at)
-            .unwrap() = value;
+/// Puts one of the values in the place of one number, if there is one.
+fn spoil_number(rng: &mut Rng, case: &mut Case, values: &[u32]) {
+    let count: usize = case.params.iter().map(Param::numbers).sum();
+    if count == 0 {
+        return;
+    }
+    let mut at = rng.below(count as u32) as usize;
+    let value = rng.pick(values);
+    for param in &mut case.params {
+        if at < param.numbers() {
+            return param.put(at, value);
+        }
+        at -= param.numbers();
     }
 }
 

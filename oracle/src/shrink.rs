@@ -91,6 +91,7 @@ fn params(case: &Case) -> impl Iterator<Item = Case> {
         let simpler: Vec<Param> = match param {
             Param::Choice(_) => vec![],
             Param::Float(bits) => numbers(*bits).map(Param::Float).collect(),
+            Param::Double(bits) => doubles(*bits).map(Param::Double).collect(),
             Param::List(bits) => lists(bits, true).map(Param::List).collect(),
             Param::Rest(bits) => lists(bits, false).map(Param::Rest).collect(),
         };
@@ -119,22 +120,30 @@ fn lists(list: &[u32], shorter: bool) -> impl Iterator<Item = Vec<u32>> {
     cut.chain(simpler)
 }
 
-/// Simpler numbers: a few plain ones, then fewer bits set.
 fn numbers(bits: u32) -> impl Iterator<Item = u32> {
     let x = f32::from_bits(bits);
-    let plain = [0.0, 1.0, -1.0, 0.5, 2.0, x.trunc(), x.abs()].map(f32::to_bits);
-    let fewer = [0xffff_0000, 0xffff_f000, 0xffff_ff00, 0xffff_fff0].map(|mask| bits & mask);
+    let plain = [0.0, 1.0, -1.0, 0.5, 2.0, x.trunc(), x.abs()];
+    simpler(bits as u64, plain.map(|x| x.to_bits() as u64)).map(|new| new as u32)
+}
+
+fn doubles(bits: u64) -> impl Iterator<Item = u64> {
+    let x = f64::from_bits(bits);
+    let plain = [0.0, 1.0, -1.0, 0.5, 2.0, x.trunc(), x.abs()];
+    simpler(bits, plain.map(f64::to_bits))
+}
+
+/// Simpler patterns: plain ones, of which the first five are the simplest, then fewer bits set.
+fn simpler(bits: u64, plain: [u64; 7]) -> impl Iterator<Item = u64> {
+    let weight = move |bits: u64| {
+        let rank = plain[..5].iter().position(|simple| *simple == bits);
+        rank.map_or(10 + bits.count_ones(), |rank| rank as u32)
+    };
+    let fewer = [32, 16, 12, 8, 4].map(|n| bits >> n << n);
     plain
         .into_iter()
         .chain(fewer)
         .chain([bits & bits.wrapping_sub(1)])
         .filter(move |new| weight(*new) < weight(bits))
-}
-
-fn weight(bits: u32) -> u32 {
-    let plain = [0.0f32, 1.0, -1.0, 0.5, 2.0].map(f32::to_bits);
-    let rank = plain.iter().position(|simple| *simple == bits);
-    rank.map_or(10 + bits.count_ones(), |rank| rank as u32)
 }
 
 /// Sheets of a wrong length get shorter.
@@ -209,6 +218,7 @@ mod tests {
             Param::Choice(3),
             Param::List(Param::floats(&[0.3, 7.7])),
             Param::float(3.25),
+            Param::double(1e300),
         ];
         let case = Case {
             width: 10,
@@ -217,13 +227,19 @@ mod tests {
             sheets: vec![sheet],
         };
         let small = shrink(case, &|case| {
-            case.sheets[0].iter().any(|b| (40..60).contains(b)) && case.float(2) > 1.5
+            let numbers = case.float(2) > 1.5 && case.double(3) > 0.7;
+            case.sheets[0].iter().any(|b| (40..60).contains(b)) && numbers
         });
         assert_eq!((small.width, small.height), (1, 1));
         assert_eq!(small.sheets[0].iter().filter(|b| **b != 0).count(), 1);
         assert_eq!(
             small.params,
-            [Param::Choice(0), Param::List(vec![]), Param::float(2.0)]
+            [
+                Param::Choice(0),
+                Param::List(vec![]),
+                Param::float(2.0),
+                Param::double(1.0)
+            ]
         );
     }
 }

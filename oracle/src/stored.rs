@@ -124,6 +124,7 @@ mod tests {
                 "morphology",
                 "composite",
                 "displacement_map",
+                "turbulence",
                 "diffuse_lighting",
                 "specular_lighting",
             ]

@@ -29,8 +29,8 @@ pub const SCALE: Range = (-4096.0, 4096.0);
 pub struct Reading {
     /// Test 3 fails: a length, a count or a target is wrong.
     pub misshapen: bool,
-    /// Each float with the range that it must keep.
-    pub ranged: Vec<(f32, Range)>,
+    /// Each number, which a double holds exactly, with the range that it must keep.
+    pub ranged: Vec<(f64, Range)>,
     /// Numbers whose squares must sum to 1, up to 1/1,024.
     pub unit: Vec<f32>,
     /// An enum's number names no case, which counts as 5.
@@ -38,8 +38,9 @@ pub struct Reading {
 }
 
 impl Reading {
-    pub fn range(&mut self, floats: &[f32], range: Range) {
-        self.ranged.extend(floats.iter().map(|x| (*x, range)));
+    pub fn range<T: Copy + Into<f64>>(&mut self, numbers: &[T], range: Range) {
+        self.ranged
+            .extend(numbers.iter().map(|x| ((*x).into(), range)));
     }
 }
 
@@ -70,11 +71,11 @@ pub fn parameters(reading: &Reading) -> u8 {
     if reading.misshapen {
         return 3;
     }
-    let mut floats = reading.ranged.iter().map(|(x, _)| x).chain(&reading.unit);
-    if floats.any(|x| x.is_nan() || x.is_infinite()) {
+    let finite = reading.ranged.iter().all(|(x, _)| x.is_finite());
+    if !finite || !reading.unit.iter().all(|x| x.is_finite()) {
         return 4;
     }
-    let outside = |(x, (least, most)): &(f32, Range)| x < least || x > most;
+    let outside = |(x, (least, most)): &(f64, Range)| *x < *least as f64 || *x > *most as f64;
     if reading.ranged.iter().any(outside) || reading.unnamed {
         return 5;
     }

@@ -9,8 +9,15 @@ use std::path::{Path, PathBuf};
 use oracle::header::{self, TYPES};
 
 /// What the package leaves out: the leaves are there for comparing and measuring.
-const NOT_IN_THE_PACKAGE: [&str; 4] =
-    ["nup_to_bytes", "nup_round_to_i32s", "nup_copy", "nup_clear"];
+const NOT_IN_THE_PACKAGE: [&str; 7] = [
+    "nup_to_bytes",
+    "nup_round_to_i32s",
+    "nup_sqrt32",
+    "nup_sqrt64",
+    "nup_to_f32s",
+    "nup_copy",
+    "nup_clear",
+];
 
 /// Where Rattle's name of a parameter of `KINDS` is another: a kind bears its channel's name there.
 const KINDS: &str = "nup_component_transfer";

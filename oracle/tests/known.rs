@@ -178,6 +178,7 @@ fn draws_meet_every_answer() {
             "morphology",
             "composite",
             "displacement_map",
+            "turbulence",
             "diffuse_lighting",
             "specular_lighting",
         ]

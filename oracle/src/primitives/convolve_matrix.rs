@@ -192,7 +192,10 @@ fn spoil(rng: &mut Rng, case: &mut Case) {
             let choice = rng.pick(&[EDGE, PRESERVE]);
             case.params[choice] = Param::Choice(rng.pick(&[3, 128, 255]));
         }
-        _ => case.params[DIVISOR] = Param::float(rng.pick(&[0.0, -0.0, 1e-5, -1.5e-5])),
+        _ => {
+            let largest = LEAST_DIVISOR.next_down();
+            case.params[DIVISOR] = Param::float(rng.pick(&[0.0, -0.0, 1e-5, largest, -largest]));
+        }
     }
 }
 

@@ -1,5 +1,6 @@
-//! Diffuse and specular lighting: a distant light with a lent direction or a point; a sheet whose alpha is read and a
-//! destination full of junk.
+//! Diffuse and specular lighting: the light (0 distant with a lent direction, 1 point), its x, y and z, surface scale,
+//! constant, red, green, blue, and for specular lighting the exponent; a sheet whose alpha is read and a destination
+//! full of junk.
 
 use rgb::FromSlice;
 use usvg::Color;
@@ -16,7 +17,7 @@ use crate::table::{Range, Reading, WIDE};
 
 pub const DIFFUSE: Primitive = Primitive {
     name: "diffuse_lighting",
-    code: 5,
+    code: 8,
     large: 600,
     known: || known(None),
     draw: |rng, width, height| draw(rng, width, height, None),
@@ -30,7 +31,7 @@ pub const DIFFUSE: Primitive = Primitive {
 
 pub const SPECULAR: Primitive = Primitive {
     name: "specular_lighting",
-    code: 6,
+    code: 9,
     known: || known(Some(1.0)),
     draw: |rng, width, height| draw(rng, width, height, Some(1.0)),
     ..DIFFUSE
@@ -174,13 +175,18 @@ fn draw(rng: &mut Rng, width: u32, height: u32, exponent: Option<f32>) -> Case {
     )
 }
 
-/// A light of no name, a direction just off the unit sphere, or an exponent other than 1.
+/// A light of no name, a direction just off the unit sphere, an exponent other than 1, or a scale or a constant that
+/// leaves its range by one step.
 fn spoil(rng: &mut Rng, case: &mut Case) {
-    match rng.below(3) {
+    match rng.below(4) {
         0 => case.params[0] = Param::Choice(rng.pick(&[2, 3, 255])),
         1 if case.params.len() == 10 => {
             case.params[9] =
                 Param::float(rng.pick(&[1f32.next_up(), 1f32.next_down(), 0.0, 128.0]));
+        }
+        2 => {
+            let (at, (least, most)) = rng.pick(&[(4, SCALES), (5, CONSTANTS)]);
+            case.params[at] = Param::float(rng.pick(&[least.next_down(), most.next_up()]));
         }
         _ => {
             let direction = edge(rng, false);

@@ -7,6 +7,7 @@ mod convolve_matrix;
 mod displacement_map;
 mod lighting;
 mod morphology;
+mod turbulence;
 
 use crate::case::{Answer, Case, Outcome};
 use crate::nasty::{self, Limits};
@@ -37,13 +38,14 @@ pub struct Primitive {
     pub ours: fn(&Case, &mut [&mut [u8]]) -> Answer,
 }
 
-pub const ALL: [Primitive; 8] = [
+pub const ALL: [Primitive; 9] = [
     morphology::PRIMITIVE,
     color_matrix::PRIMITIVE,
     composite::PRIMITIVE,
     component_transfer::PRIMITIVE,
     convolve_matrix::PRIMITIVE,
     displacement_map::PRIMITIVE,
+    turbulence::PRIMITIVE,
     lighting::DIFFUSE,
     lighting::SPECULAR,
 ];

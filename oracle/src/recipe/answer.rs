@@ -7,12 +7,24 @@ use crate::table;
 /// What the slots 0 to 3 hold: nothing, or a sheet of a kind.
 type Held = [Option<Kind>; 4];
 
+/// What they hold after these steps, whose slots are taken.
+pub fn held(source: Kind, steps: &[Step]) -> Held {
+    let mut held = [Some(source), None, None, None];
+    steps.iter().for_each(|step| write(step, &mut held));
+    held
+}
+
+fn write(step: &Step, held: &mut Held) {
+    let first = step.inputs.first().and_then(|slot| held[*slot as usize]);
+    held[step.output as usize] = step.work.makes(first);
+}
+
 pub fn answer(recipe: &Recipe) -> Answer {
     let number = before_steps(recipe);
     if number != 0 {
         return Answer { number, step: 0 };
     }
-    let mut held = [Some(recipe.kind), None, None, None];
+    let mut held = held(recipe.kind, &[]);
     for (step, index) in recipe.taken().iter().zip(0..) {
         let number = of_step(recipe, step, &held);
         if number != 0 {
@@ -21,7 +33,7 @@ pub fn answer(recipe: &Recipe) -> Answer {
                 step: index,
             };
         }
-        held[step.output as usize] = Some(step.work.kinds().1);
+        write(step, &mut held);
     }
     Answer { number: 0, step: 0 }
 }
@@ -45,12 +57,10 @@ fn of_step(recipe: &Recipe, step: &Step, held: &Held) -> u8 {
     {
         return 7;
     }
-    let (wanted, _) = step.work.kinds();
-    if step
-        .inputs
-        .iter()
-        .any(|slot| held[*slot as usize] != Some(wanted))
-    {
+    let wanted = step.work.wanted();
+    let wrong =
+        |(slot, wanted): (&u8, &Option<Kind>)| wanted.is_some() && held[*slot as usize] != *wanted;
+    if step.inputs.iter().zip(&wanted).any(wrong) {
         return 8;
     }
     match recipe.call(&step.work) {

@@ -1,12 +1,12 @@
 //! Recipes that are awkward on purpose: chains and diamonds, slots read twice and written again, and
 //! recipes with one or two faults, so that the order of the tests shows.
 
-use super::{Function, Kind, Recipe, STEPS, Step, Work};
+use super::{Function, Kernel, Kind, Lighting, Recipe, STEPS, Step, Work, held};
 use crate::case::Case;
 use crate::nasty::{self, Limits};
 use crate::primitives;
 use crate::rng::Rng;
-use crate::table::WIDE;
+use crate::table::{LEAST_DIVISOR, WIDE};
 
 const LIMITS: Limits = Limits {
     side: 5,
@@ -17,16 +17,16 @@ const LIMITS: Limits = Limits {
 pub fn draw(rng: &mut Rng) -> Recipe {
     let kind = rng.pick(&[Kind::Straight, Kind::Premultiplied, Kind::Premultiplied]);
     let count = rng.pick(&[1, 1, 2, 2, 2, 3, 3, 3, 4, 4, 5, 6, 7, 9, 12, 16]);
-    draw_of(rng, kind, count)
+    let side = rng.pick(&[1, 2, 2, 3, 3, 5]);
+    let size = match rng.one_in(3) {
+        // Light falls on no smaller ones.
+        true => (3 + rng.below(2), 3 + rng.below(2)),
+        false => nasty::size(rng, Limits { side, ..LIMITS }),
+    };
+    draw_of(rng, size, kind, count)
 }
 
-fn draw_of(rng: &mut Rng, kind: Kind, count: u32) -> Recipe {
-    let limits = Limits {
-        side: rng.pick(&[1, 2, 2, 3, 3, 5]),
-        ..LIMITS
-    };
-    let (width, height) = nasty::size(rng, limits);
-    let width = if rng.one_in(8) { width + 1 } else { width };
+fn draw_of(rng: &mut Rng, (width, height): (u32, u32), kind: Kind, count: u32) -> Recipe {
     let mut recipe = Recipe {
         width,
         height,
@@ -58,18 +58,29 @@ fn draw_of(rng: &mut Rng, kind: Kind, count: u32) -> Recipe {
 
 /// A step that reads the source or what earlier steps wrote; in a chain, the step before.
 fn draw_step(rng: &mut Rng, recipe: &mut Recipe, chain: bool) -> Step {
+    let held = held(recipe.kind, &recipe.steps);
     let last = recipe.steps.last().map_or(0, |step| step.output);
     let others: Vec<u8> = (1..4).filter(|slot| !chain || *slot != last).collect();
     let output = rng.pick(&others);
-    let readable: Vec<u8> = (0..4)
-        .filter(|slot| *slot != output && (*slot == 0 || writes(&recipe.steps, *slot)))
-        .collect();
-    let first = if chain { last } else { rng.pick(&readable) };
-    let work = draw_work(rng, recipe);
-    let inputs = match work {
-        Work::Arithmetic(_) => vec![first, rng.pick(&readable)],
-        _ => vec![first],
+    let readable = |kind: Option<Kind>| -> Vec<u8> {
+        let holds = |slot: u8| held[slot as usize].is_some_and(|has| kind.is_none_or(|k| k == has));
+        let slots = (0..4).filter(|slot| *slot != output && holds(*slot));
+        slots.collect()
     };
+    let first = match chain {
+        true => last,
+        false => rng.pick(&readable(None)),
+    };
+    let mapped = !readable(Some(Kind::Straight)).is_empty();
+    let work = draw_work(rng, recipe, held[first as usize].unwrap(), mapped);
+    let mut inputs: Vec<u8> = work
+        .wanted()
+        .into_iter()
+        .map(|kind| rng.pick(&readable(kind)))
+        .collect();
+    if let Some(input) = inputs.first_mut() {
+        *input = first;
+    }
     Step {
         work,
         inputs,
@@ -77,28 +88,45 @@ fn draw_step(rng: &mut Rng, recipe: &mut Recipe, chain: bool) -> Step {
     }
 }
 
-fn writes(steps: &[Step], slot: u8) -> bool {
-    steps.iter().any(|step| step.output == slot)
+/// The primitives of a step that reads this kind first.
+fn names(kind: Kind, mapped: bool) -> Vec<&'static str> {
+    let either = [
+        "convolve_matrix",
+        "diffuse_lighting",
+        "specular_lighting",
+        "turbulence",
+    ];
+    let own = match kind {
+        Kind::Premultiplied => ["morphology", "composite"],
+        Kind::Straight => ["color_matrix", "component_transfer"],
+    };
+    let map: &[&str] = if mapped {
+        &["displacement_map"; 2]
+    } else {
+        &[]
+    };
+    [&own, &own, &own, &either[..], map].concat()
 }
 
-/// Work of the recipe's kind: mostly such that something of the picture is left after some steps.
-fn draw_work(rng: &mut Rng, recipe: &mut Recipe) -> Work {
+/// Work on that kind: mostly such that something of the picture is left after some steps.
+fn draw_work(rng: &mut Rng, recipe: &mut Recipe, kind: Kind, mapped: bool) -> Work {
     let wild = rng.one_in(4);
-    match (recipe.kind, rng.one_in(2)) {
-        (Kind::Premultiplied, true) if wild => {
-            let case = drawn(rng, "morphology");
-            Work::Morphology(case.choice(0), case.float(1), case.float(2))
+    let name = rng.pick(&names(kind, mapped));
+    match name {
+        "color_matrix" if !rng.one_in(4) => draw_matrix(rng, recipe, wild),
+        "color_matrix" => {
+            let angle = std::f32::consts::TAU * rng.unit();
+            let hue = Work::HueRotate(angle.cos(), angle.sin());
+            rng.pick(&[hue, hue, Work::Saturate(0.4), Work::LuminanceToAlpha])
         }
-        (Kind::Premultiplied, true) => Work::Morphology(
+        "component_transfer" => Work::Transfer([(); 4].map(|_| draw_function(rng, recipe, wild))),
+        "convolve_matrix" => Work::Convolve(draw_kernel(rng, recipe, kind == Kind::Straight, wild)),
+        "morphology" if !wild => Work::Morphology(
             rng.below(2),
             nasty::radius(rng, 1),
             rng.pick(&[0.0, 0.0, 1.0]),
         ),
-        (Kind::Premultiplied, false) if wild => {
-            let case = drawn(rng, "composite");
-            Work::Arithmetic([0, 1, 2, 3].map(|i| case.float(i)))
-        }
-        (Kind::Premultiplied, false) => {
+        "composite" if !wild => {
             let part = rng.unit();
             Work::Arithmetic(rng.pick(&[
                 [0.0, part, 1.0 - part, 0.0],
@@ -107,16 +135,75 @@ fn draw_work(rng: &mut Rng, recipe: &mut Recipe) -> Work {
                 [part, 0.5, 0.5, -0.1],
             ]))
         }
-        (Kind::Straight, true) => draw_matrix(rng, recipe, wild),
-        (Kind::Straight, false) if !rng.one_in(3) => {
-            Work::Transfer([(); 4].map(|_| draw_function(rng, recipe, wild)))
-        }
-        (Kind::Straight, false) => {
-            let angle = std::f32::consts::TAU * rng.unit();
-            let hue = Work::HueRotate(angle.cos(), angle.sin());
-            let saturate = Work::Saturate(rng.unit());
-            rng.pick(&[hue, hue, saturate, Work::LuminanceToAlpha])
-        }
+        _ => of_call(name, &drawn(rng, name)),
+    }
+}
+
+/// The work of a single call that keeps no numbers in the pool.
+fn of_call(name: &str, case: &Case) -> Work {
+    let lighting = || Lighting {
+        light: case.choice(0),
+        place: [1, 2, 3].map(|i| case.float(i)),
+        surface_scale: case.float(4),
+        constant: case.float(5),
+        color: [6, 7, 8].map(|i| case.choice(i) as u8),
+    };
+    match name {
+        "morphology" => Work::Morphology(case.choice(0), case.float(1), case.float(2)),
+        "composite" => Work::Arithmetic([0, 1, 2, 3].map(|i| case.float(i))),
+        "displacement_map" => Work::Displacement(
+            [0, 1].map(|i| case.choice(i)),
+            [2, 3, 4].map(|i| case.float(i)),
+        ),
+        "turbulence" => Work::Turbulence(
+            [0, 1, 2, 3, 4, 5].map(|i| case.double(i)),
+            case.choice(6),
+            case.choice(7) as i32,
+            case.choice(9),
+        ),
+        "diffuse_lighting" => Work::Diffuse(lighting()),
+        "specular_lighting" => Work::Specular(lighting(), case.float(9)),
+        _ => unreachable!("{name} is drawn apart"),
+    }
+}
+
+/// A kernel: a wild one, or a few small numbers and one that outweighs them; they go to the pool.
+fn draw_kernel(rng: &mut Rng, recipe: &mut Recipe, preserve_alpha: bool, wild: bool) -> Kernel {
+    let start = recipe.pool.len() as u32;
+    let case = drawn(rng, "convolve_matrix");
+    let numbers = case.floats(8);
+    let edge = case.choice(4);
+    if wild && (numbers.len() < 26 || start < 100) {
+        recipe.pool.extend(&numbers);
+        return Kernel {
+            columns: case.choice(0),
+            rows: case.choice(1),
+            target_x: case.choice(2),
+            target_y: case.choice(3),
+            start,
+            length: numbers.len() as u32,
+            divisor: case.float(6),
+            bias: case.float(7),
+            edge,
+            preserve_alpha,
+        };
+    }
+    let (columns, rows) = rng.pick(&[(3, 1), (1, 3), (2, 2), (3, 3), (2, 1)]);
+    let length = columns * rows;
+    let target = rng.below(length);
+    let parts = (0..length).map(|i| if i == target { 1.5 } else { rng.unit() - 0.4 });
+    recipe.pool.extend(parts);
+    Kernel {
+        columns,
+        rows,
+        target_x: rng.below(columns),
+        target_y: rng.below(rows),
+        start,
+        length,
+        divisor: rng.pick(&[1.0, 1.5, 2.0]),
+        bias: rng.pick(&[0.0, 0.0, 0.1]),
+        edge,
+        preserve_alpha,
     }
 }
 
@@ -183,17 +270,11 @@ fn drawn(rng: &mut Rng, name: &str) -> Case {
 
 /// A recipe with the faults of these two numbers of the table, 0 for none; each may hide the other.
 pub fn draw_spoiled(rng: &mut Rng, first: u8, second: u8) -> Recipe {
-    // Only a straight recipe can come to test 3.
-    let straight = match [first, second].contains(&3) {
-        true => !rng.one_in(4),
-        false => rng.one_in(3),
-    };
-    let kind = match straight {
-        true => Kind::Straight,
-        false => Kind::Premultiplied,
-    };
-    let count = rng.pick(&[1, 2, 3, 4, 5, 6, 8, 11, 16]);
-    let mut recipe = draw_of(rng, kind, count);
+    let kind = rng.pick(&[Kind::Straight, Kind::Premultiplied]);
+    let count = rng.pick(&[1, 2, 2, 3, 3, 4, 5, 6, 7, 16]);
+    let side = rng.pick(&[1, 1, 2]);
+    let size = nasty::size(rng, Limits { side, ..LIMITS });
+    let mut recipe = draw_of(rng, size, kind, count);
     let at = rng.below(recipe.count) as usize;
     let other = match rng.one_in(2) {
         true => at,
@@ -233,6 +314,7 @@ fn spoil(rng: &mut Rng, recipe: &mut Recipe, number: u8, at: usize) {
         }
         3 => spoil_range(rng, recipe, at),
         4 => spoil_float(rng, recipe, at, &[f32::NAN, f32::INFINITY, -f32::INFINITY]),
+        5 if rng.one_in(2) => spoil_own(rng, recipe, at),
         5 => {
             let over = 65536f32.next_up();
             spoil_float(rng, recipe, at, &[over, -over, f32::MAX, -70000.0]);
@@ -243,9 +325,10 @@ fn spoil(rng: &mut Rng, recipe: &mut Recipe, number: u8, at: usize) {
     }
 }
 
-/// A range past the pool's end, or a matrix not of 20 numbers, or a table of more than 256.
+/// A range past the pool's end, a matrix not of 20 numbers, a table of more than 256, or a kernel of a wrong shape.
 fn spoil_range(rng: &mut Rng, recipe: &mut Recipe, at: usize) {
     let length = recipe.pool.len() as u32;
+    let held = held(recipe.kind, &recipe.steps[..at]);
     let (start, numbers) = rng.pick(&[
         (length.saturating_sub(20) + 1, 20),
         (length, 20),
@@ -258,42 +341,95 @@ fn spoil_range(rng: &mut Rng, recipe: &mut Recipe, at: usize) {
         (u32::MAX, u32::MAX),
         (0, u32::MAX),
     ]);
-    let step = &mut recipe.steps[at];
-    if let Work::Transfer(functions) = &mut step.work {
-        let (start, numbers) = rng.pick(&[
-            (length, 1),
-            (length + 1, 0),
-            (0, length + 1),
-            (0, 257),
-            (u32::MAX, u32::MAX),
-        ]);
-        functions[rng.below(4) as usize] = match rng.one_in(2) {
-            true => Function::Table(start, numbers),
-            false => Function::Discrete(start, numbers),
-        };
-        if numbers == 257 {
-            recipe.pool.resize(257, 0.5);
-        }
-        return;
+    if let Work::Transfer(functions) = &mut recipe.steps[at].work {
+        return spoil_table(rng, functions, &mut recipe.pool);
     }
-    step.work = Work::Matrix(start, numbers);
-    step.inputs.truncate(1);
+    let input = recipe.steps[at].inputs.first().map_or(0, |slot| *slot);
+    let straight = held[input as usize] == Some(Kind::Straight);
+    let work = match straight && rng.one_in(2) {
+        true => Work::Matrix(start, numbers),
+        false => {
+            let kernel = draw_kernel(rng, recipe, straight, false);
+            Work::Convolve(misshapen(rng, kernel))
+        }
+    };
+    recipe.steps[at].work = work;
+    recipe.steps[at].inputs = vec![input];
+}
+
+/// A table that leaves the pool, or has one entry too many.
+fn spoil_table(rng: &mut Rng, functions: &mut [Function; 4], pool: &mut Vec<f32>) {
+    let length = pool.len() as u32;
+    let (start, numbers) = rng.pick(&[
+        (length, 1),
+        (length + 1, 0),
+        (0, length + 1),
+        (0, 257),
+        (u32::MAX, u32::MAX),
+    ]);
+    functions[rng.below(4) as usize] = match rng.one_in(2) {
+        true => Function::Table(start, numbers),
+        false => Function::Discrete(start, numbers),
+    };
+    if numbers == 257 {
+        pool.resize(257, 0.5);
+    }
+}
+
+/// A side or a target that is wrong, or a range of another length or past the end of the pool.
+fn misshapen(rng: &mut Rng, mut kernel: Kernel) -> Kernel {
+    match rng.below(6) {
+        0 => kernel.columns = rng.pick(&[0, 16, u32::MAX, kernel.columns + 1]),
+        1 => kernel.rows = rng.pick(&[0, 16, 1 << 31, kernel.rows + 1]),
+        2 => kernel.target_x = kernel.columns,
+        3 => kernel.target_y = rng.pick(&[kernel.rows, u32::MAX]),
+        4 => kernel.start = rng.pick(&[kernel.start + 1, u32::MAX]),
+        _ => kernel.length = rng.pick(&[kernel.length - 1, kernel.length + 1, 0, u32::MAX]),
+    }
+    kernel
+}
+
+/// What only this work has leaves its range by a step, as in the single calls; enums keep to their cases.
+fn spoil_own(rng: &mut Rng, recipe: &mut Recipe, at: usize) {
+    let own = [
+        "composite",
+        "displacement_map",
+        "turbulence",
+        "diffuse_lighting",
+        "specular_lighting",
+    ];
+    let mut work = recipe.steps[at].work;
+    let primitive = work.primitive();
+    if let Work::Convolve(kernel) = &mut work {
+        kernel.divisor = rng.pick(&[0.0, -0.0, LEAST_DIVISOR.next_down(), -1e-5]);
+    } else if own.contains(&primitive.name) {
+        let call = recipe.call(&work).expect("no range of the pool");
+        let spoiled = std::iter::repeat_with(|| {
+            let mut call = call.clone();
+            (primitive.spoil)(rng, &mut call);
+            call
+        });
+        let mut named = spoiled.filter(|call| !(primitive.reading)(call).unnamed);
+        work = of_call(primitive.name, &named.next().unwrap());
+    }
+    recipe.steps[at].work = work;
 }
 
 /// One of the values in the place of one of the step's floats.
 fn spoil_float(rng: &mut Rng, recipe: &mut Recipe, at: usize, values: &[f32]) {
     let value = rng.pick(values);
-    match &mut recipe.steps[at].work {
+    let Recipe { steps, pool, .. } = recipe;
+    let mut pooled = |start: u32, place: u32| {
+        if let Some(number) = pool.get_mut(start.wrapping_add(place) as usize) {
+            *number = value;
+        }
+    };
+    match &mut steps[at].work {
         Work::Morphology(_, rx, ry) => match rng.one_in(2) {
             true => *rx = value,
             false => *ry = value,
         },
-        Work::Matrix(start, length) => {
-            let place = start.wrapping_add(rng.below((*length).max(1)));
-            if let Some(number) = recipe.pool.get_mut(place as usize) {
-                *number = value;
-            }
-        }
+        Work::Matrix(start, length) => pooled(*start, rng.below((*length).max(1))),
         Work::HueRotate(cosine, sine) => match rng.below(3) {
             0 => *cosine = value,
             1 => *sine = value,
@@ -301,6 +437,19 @@ fn spoil_float(rng: &mut Rng, recipe: &mut Recipe, at: usize, values: &[f32]) {
             _ => (*cosine, *sine) = (value, 65536.0),
         },
         work @ (Work::Saturate(_) | Work::LuminanceToAlpha) => *work = Work::Saturate(value),
+        Work::Convolve(kernel) => match rng.below(3) {
+            0 => kernel.divisor = value,
+            1 => kernel.bias = value,
+            _ => pooled(kernel.start, rng.below(kernel.length.max(1))),
+        },
+        Work::Displacement(_, numbers) => numbers[rng.below(3) as usize] = value,
+        Work::Turbulence(doubles, ..) => doubles[rng.below(6) as usize] = value as f64,
+        Work::Specular(_, exponent) if rng.one_in(4) => *exponent = value,
+        Work::Diffuse(lighting) | Work::Specular(lighting, _) => match rng.below(5) {
+            3 => lighting.surface_scale = value,
+            4 => lighting.constant = value,
+            i => lighting.place[i as usize] = value,
+        },
         Work::Arithmetic(k) => k[rng.below(4) as usize] = value,
         Work::Transfer(functions) => {
             let function = &mut functions[rng.below(4) as usize];
@@ -308,10 +457,7 @@ fn spoil_float(rng: &mut Rng, recipe: &mut Recipe, at: usize, values: &[f32]) {
                 Function::Table(start, length) | Function::Discrete(start, length)
                     if length > 0 =>
                 {
-                    let place = start.wrapping_add(rng.below(length));
-                    if let Some(number) = recipe.pool.get_mut(place as usize) {
-                        *number = value;
-                    }
+                    pooled(start, rng.below(length));
                 }
                 Function::Linear(slope, _) => *function = Function::Linear(slope, value),
                 _ => *function = Function::Linear(value, 0.0),
@@ -322,12 +468,12 @@ fn spoil_float(rng: &mut Rng, recipe: &mut Recipe, at: usize, values: &[f32]) {
 
 /// A slot that there is not, an output that is no working slot or an input, an input that holds nothing yet.
 fn spoil_slot(rng: &mut Rng, recipe: &mut Recipe, at: usize) {
-    let unwritten: Vec<u8> = (1..4)
-        .filter(|slot| !writes(&recipe.steps[..at], *slot))
-        .collect();
+    let written = |slot: u8| recipe.steps[..at].iter().any(|step| step.output == slot);
+    let unwritten: Vec<u8> = (1..4).filter(|slot| !written(*slot)).collect();
     let step = &mut recipe.steps[at];
     let input = rng.below(step.inputs.len() as u32) as usize;
-    match rng.below(6) {
+    let faults = if step.inputs.is_empty() { 2 } else { 6 };
+    match rng.below(faults) {
         0 => step.output = 0,
         1 => step.output = rng.pick(&[4, 5, 128, 255]),
         2 => step.inputs[input] = rng.pick(&[4, 5, 128, 255]),
@@ -338,24 +484,46 @@ fn spoil_slot(rng: &mut Rng, recipe: &mut Recipe, at: usize) {
     }
 }
 
-/// Work of the other kind, or another kind declared.
+/// Another kind declared, or work that takes the other kind, one of its inputs or both.
 fn spoil_kind(rng: &mut Rng, recipe: &mut Recipe, at: usize) {
-    let step = &mut recipe.steps[at];
-    match recipe.kind {
-        Kind::Premultiplied if rng.one_in(5) => recipe.kind = Kind::Straight,
-        Kind::Straight if rng.one_in(5) => recipe.kind = Kind::Premultiplied,
-        Kind::Premultiplied => {
-            step.work = rng.pick(&[
-                Work::LuminanceToAlpha,
-                Work::Saturate(0.5),
-                Work::Matrix(0, 20),
-            ]);
-            step.inputs.truncate(1);
-        }
-        Kind::Straight if rng.one_in(2) => step.work = Work::Morphology(1, 1.0, 0.0),
-        Kind::Straight => {
-            step.work = Work::Arithmetic([0.0, 1.0, 0.0, 0.0]);
-            step.inputs = vec![step.inputs[0]; 2];
-        }
+    if rng.one_in(8) {
+        recipe.kind = match recipe.kind {
+            Kind::Straight => Kind::Premultiplied,
+            Kind::Premultiplied => Kind::Straight,
+        };
+        return;
     }
+    let held = held(recipe.kind, &recipe.steps[..at]);
+    let output = recipe.steps[at].output;
+    let first = recipe.steps[at].inputs.first().map_or(0, |slot| *slot);
+    let straight = held[first as usize] == Some(Kind::Straight);
+    let premultiplied = |slot: &u8| held[*slot as usize] == Some(Kind::Premultiplied);
+    let maps: Vec<u8> = (0..4)
+        .filter(|slot| *slot != output && premultiplied(slot))
+        .collect();
+    let alone = |work: Work| (work, vec![first]);
+    let (work, inputs) = match rng.below(4) {
+        0 if !maps.is_empty() => {
+            let work = of_call("displacement_map", &drawn(rng, "displacement_map"));
+            (work, vec![first, rng.pick(&maps)])
+        }
+        0 | 1 => alone(Work::Convolve(draw_kernel(rng, recipe, !straight, false))),
+        2 if straight => {
+            let other = maps.first().map_or(first, |slot| *slot);
+            let work = Work::Arithmetic([0.0, 1.0, 0.0, 0.0]);
+            (work, rng.pick(&[[other, first], [first, other]]).into())
+        }
+        _ if straight => alone(Work::Morphology(1, 1.0, 0.0)),
+        _ => alone(rng.pick(&[
+            Work::LuminanceToAlpha,
+            Work::Saturate(0.5),
+            Work::Matrix(0, 20),
+            Work::Transfer([Function::Linear(0.5, 0.1); 4]),
+        ])),
+    };
+    recipe.steps[at] = Step {
+        work,
+        inputs,
+        output,
+    };
 }

@@ -8,6 +8,7 @@ mod run;
 mod stored;
 
 pub use answer::answer;
+use answer::held;
 pub use draw::{draw, draw_spoiled};
 pub use reach::{reach, reaches};
 pub use run::run;
@@ -37,6 +38,41 @@ pub enum Work {
     Arithmetic([f32; 4]),
     /// A function for each of red, green, blue and alpha.
     Transfer([Function; 4]),
+    Convolve(Kernel),
+    /// The channels that move columns and rows; sx, sy and scale. It reads the picture, then the map.
+    Displacement([u32; 2], [f32; 3]),
+    /// Offsets, scales and frequencies of columns and rows by turns; octaves, seed, and 0 for turbulence or 1 for
+    /// fractal noise. It reads nothing.
+    Turbulence([f64; 6], u32, i32, u32),
+    Diffuse(Lighting),
+    /// With its exponent.
+    Specular(Lighting, f32),
+}
+
+/// A kernel; its numbers are a range of the pool.
+#[derive(Clone, Copy, Debug)]
+pub struct Kernel {
+    pub columns: u32,
+    pub rows: u32,
+    pub target_x: u32,
+    pub target_y: u32,
+    pub start: u32,
+    pub length: u32,
+    pub divisor: f32,
+    pub bias: f32,
+    /// 0 none, 1 duplicate, 2 wrap.
+    pub edge: u32,
+    pub preserve_alpha: bool,
+}
+
+#[derive(Clone, Copy, Debug)]
+pub struct Lighting {
+    /// 0 distant, 1 point.
+    pub light: u32,
+    pub place: [f32; 3],
+    pub surface_scale: f32,
+    pub constant: f32,
+    pub color: [u8; 3],
 }
 
 /// A transfer function; tables are ranges of the pool, a start and a length.
@@ -78,19 +114,40 @@ impl Work {
             Work::Morphology(..) => "morphology",
             Work::Arithmetic(_) => "composite",
             Work::Transfer(_) => "component_transfer",
-            _ => "color_matrix",
+            Work::Convolve(_) => "convolve_matrix",
+            Work::Displacement(..) => "displacement_map",
+            Work::Turbulence(..) => "turbulence",
+            Work::Diffuse(_) => "diffuse_lighting",
+            Work::Specular(..) => "specular_lighting",
+            Work::Matrix(..) | Work::Saturate(_) | Work::HueRotate(..) | Work::LuminanceToAlpha => {
+                "color_matrix"
+            }
         };
         let mut all = primitives::ALL.iter();
         all.find(|primitive| primitive.name == name).unwrap()
     }
 
-    /// The kind that every input must have, and the kind of what is made.
-    fn kinds(&self) -> (Kind, Kind) {
+    /// The kind that each input must have; None where either will do.
+    fn wanted(&self) -> Vec<Option<Kind>> {
+        let (straight, premultiplied) = (Some(Kind::Straight), Some(Kind::Premultiplied));
         match self {
-            Work::Morphology(..) | Work::Arithmetic(_) => {
-                (Kind::Premultiplied, Kind::Premultiplied)
-            }
-            _ => (Kind::Straight, Kind::Straight),
+            Work::Morphology(..) => vec![premultiplied],
+            Work::Arithmetic(_) => vec![premultiplied; 2],
+            Work::Convolve(kernel) if !kernel.preserve_alpha => vec![premultiplied],
+            Work::Displacement(..) => vec![None, straight],
+            Work::Turbulence(..) => vec![],
+            Work::Diffuse(_) | Work::Specular(..) => vec![None],
+            _ => vec![straight],
+        }
+    }
+
+    /// The kind of what is made, of a first input of the kind `first`.
+    fn makes(&self, first: Option<Kind>) -> Option<Kind> {
+        match self {
+            Work::Displacement(..) => first,
+            Work::Morphology(..) | Work::Arithmetic(_) => Some(Kind::Premultiplied),
+            Work::Convolve(_) | Work::Specular(..) => Some(Kind::Premultiplied),
+            _ => Some(Kind::Straight),
         }
     }
 
@@ -117,7 +174,48 @@ impl Work {
                 }
                 params
             }
+            Work::Convolve(kernel) => kernel.params(pool)?,
+            Work::Displacement(channels, numbers) => {
+                let channels = channels.map(Param::Choice).into_iter();
+                channels.chain(numbers.map(Param::float)).collect()
+            }
+            Work::Turbulence(doubles, octaves, seed, kind) => {
+                let choices = [octaves, seed as u32, 0, kind].map(Param::Choice);
+                let doubles = doubles.map(Param::double).into_iter();
+                doubles.chain(choices).collect()
+            }
+            Work::Diffuse(lighting) => lighting.params(),
+            Work::Specular(lighting, exponent) => {
+                let mut params = lighting.params();
+                params.push(Param::float(exponent));
+                params
+            }
         })
+    }
+}
+
+impl Kernel {
+    /// None where the range leaves the pool.
+    fn params(&self, pool: &[f32]) -> Option<Vec<Param>> {
+        let numbers = range(pool, self.start, self.length)?;
+        let preserve = self.preserve_alpha as u32;
+        let target = [self.target_x, self.target_y];
+        let mut params = vec![Param::Choice(self.columns), Param::Choice(self.rows)];
+        params.extend(target.map(Param::Choice));
+        params.extend([self.edge, preserve].map(Param::Choice));
+        params.extend([self.divisor, self.bias].map(Param::float));
+        params.push(Param::Rest(Param::floats(numbers)));
+        Some(params)
+    }
+}
+
+impl Lighting {
+    fn params(&self) -> Vec<Param> {
+        let mut params = vec![Param::Choice(self.light)];
+        params.extend(self.place.map(Param::float));
+        params.extend([self.surface_scale, self.constant].map(Param::float));
+        params.extend(self.color.map(|c| Param::Choice(c as u32)));
+        params
     }
 }
 

@@ -1,13 +1,18 @@
 //! The stored list of recipes, which a Rattle program replays without Rust.
 //!
 //! Little-endian u32 words: width, height, kind (0 straight, 1 premultiplied), P, the P numbers of the
-//! pool, count, S, and S steps of sixteen words: code, output, first input, second input (0 where there is
-//! one input) and twelve parameters; then five times a length with that many bytes (slots 0 to 3 and
+//! pool, count, S, and S steps of twenty words: code, output, first input, second input (0 where there is none) and
+//! sixteen parameters; then five times a length with that many bytes (slots 0 to 3 and
 //! scratch); then the answer's number and step, 1 where the result reaches slot 0 and else 0, and the five
 //! sheets' bytes after the run. Bytes are padded with zeros to a whole number of words. The end of the file
 //! ends the list.
 
-use super::{Function, Kind, Recipe, STEPS, Step, Work, draw, draw_spoiled, reaches, run};
+use super::{
+    Function, Kernel, Kind, Lighting, Recipe, STEPS, Step, Work, answer, draw, draw_spoiled,
+    reaches, run,
+};
+use crate::case::Answer;
+use crate::primitives;
 use crate::rng::Rng;
 
 const SEED: u64 = 0x7265_6369;
@@ -16,24 +21,53 @@ const ACCEPTED: usize = 140;
 const FAULTS: [u8; 8] = [1, 2, 3, 4, 5, 6, 7, 8];
 const OF_STEPS: [u8; 5] = [7, 8, 3, 4, 5];
 
-/// What is known, then accepted recipes, then recipes with each fault alone and with each other one.
 pub fn list() -> Vec<u8> {
-    let mut rng = Rng::new(SEED);
     let mut list = Vec::new();
-    for recipe in known() {
+    for recipe in recipes() {
         write(&mut list, &recipe);
     }
-    for _ in 0..ACCEPTED {
-        write(&mut list, &draw(&mut rng));
-    }
-    for faults in [&FAULTS[..], &OF_STEPS, &FAULTS, &OF_STEPS] {
+    list
+}
+
+/// What is known, then accepted recipes, then recipes with each fault alone and with each other one, then those that
+/// are refused at a step of each primitive.
+fn recipes() -> Vec<Recipe> {
+    let mut rng = Rng::new(SEED);
+    let mut recipes = known();
+    recipes.extend((0..ACCEPTED).map(|_| draw(&mut rng)));
+    for faults in [&FAULTS[..], &OF_STEPS, &OF_STEPS] {
         for first in faults {
             for second in [&0].into_iter().chain(faults) {
-                write(&mut list, &draw_spoiled(&mut rng, *first, *second));
+                recipes.push(draw_spoiled(&mut rng, *first, *second));
             }
         }
     }
-    list
+    for primitive in &primitives::ALL {
+        for number in OF_STEPS
+            .into_iter()
+            .filter(|n| can_give(primitive.name, *n))
+        {
+            let mut drawn = std::iter::repeat_with(|| draw_spoiled(&mut rng, number, 0));
+            let refused = drawn.by_ref().filter(|recipe| {
+                let answer = answer(recipe);
+                answer.number == number
+                    && recipe.steps[answer.step as usize].work.primitive().name == primitive.name
+            });
+            recipes.extend(refused.take(2));
+        }
+    }
+    recipes
+}
+
+/// Whether a step of this primitive can be refused with this number of `OF_STEPS`.
+fn can_give(name: &str, number: u8) -> bool {
+    let pooled = ["color_matrix", "component_transfer", "convolve_matrix"].contains(&name);
+    let any_kind = ["turbulence", "diffuse_lighting", "specular_lighting"].contains(&name);
+    match number {
+        3 => pooled,
+        8 => !any_kind,
+        _ => true,
+    }
 }
 
 fn step(work: Work, inputs: &[u8], output: u8) -> Step {
@@ -87,6 +121,15 @@ fn known() -> Vec<Recipe> {
         base(0, vec![]),
         base(17, vec![step(dilate, &[9], 9)]),
     ];
+    let clouds = Work::Turbulence([0.5, 0.0, 1.0, 1.0, 0.3, 0.7], 3, 346, 1);
+    let moved = Work::Displacement([0, 3], [1.0, 1.0, 4.0]);
+    recipes.extend([
+        // A drawn map moves the source.
+        base(2, vec![step(clouds, &[], 1), step(moved, &[0, 1], 2)]),
+        // What is drawn last reaches nothing, and moved by itself neither.
+        base(2, vec![step(dilate, &[0], 1), step(clouds, &[], 2)]),
+        base(2, vec![step(clouds, &[], 1), step(moved, &[1, 1], 3)]),
+    ]);
     recipes.extend([15, 16, 17, 18, 255].map(|count| base(count, to_and_fro.clone())));
     recipes.extend(in_one_step().map(|work| base(1, vec![step(work, &[0], 1)])));
     recipes
@@ -118,22 +161,16 @@ fn write(list: &mut Vec<u8>, recipe: &Recipe) {
         write_words(list, [sheet.len() as u32]);
         write_bytes(list, sheet);
     }
-    let answer = outcome.answer;
-    write_words(
-        list,
-        [
-            answer.number as u32,
-            answer.step as u32,
-            reaches(recipe) as u32,
-        ],
-    );
+    let Answer { number, step } = outcome.answer;
+    let reaches = reaches(recipe) as u32;
+    write_words(list, [number as u32, step as u32, reaches]);
     for sheet in &outcome.sheets {
         write_bytes(list, sheet);
     }
 }
 
 /// The words of a step.
-const STEP_WORDS: usize = 16;
+const STEP_WORDS: usize = 20;
 
 fn words(step: &Step) -> [u32; STEP_WORDS] {
     let bits = f32::to_bits;
@@ -145,12 +182,46 @@ fn words(step: &Step) -> [u32; STEP_WORDS] {
         Work::LuminanceToAlpha => (2, vec![3]),
         Work::Arithmetic(k) => (3, k.map(bits).into()),
         Work::Transfer(functions) => (4, functions.map(function_words).concat()),
+        Work::Convolve(kernel) => (5, kernel_words(kernel).into()),
+        Work::Displacement(channels, numbers) => (6, [&channels[..], &numbers.map(bits)].concat()),
+        Work::Turbulence(doubles, octaves, seed, kind) => {
+            let halves = |x: f64| [x.to_bits() as u32, (x.to_bits() >> 32) as u32];
+            let numbers = [octaves, seed as u32, kind];
+            (7, [&doubles.map(halves).concat()[..], &numbers].concat())
+        }
+        Work::Diffuse(lighting) => (8, lighting_words(lighting, None)),
+        Work::Specular(lighting, exponent) => (9, lighting_words(lighting, Some(exponent))),
     };
-    let first = step.inputs[0] as u32;
-    let second = step.inputs.get(1).map_or(0, |slot| *slot as u32);
+    let input = |i: usize| step.inputs.get(i).map_or(0, |slot| *slot as u32);
+    let (first, second) = (input(0), input(1));
     let mut words = [0; STEP_WORDS];
     words[..4].copy_from_slice(&[code, step.output as u32, first, second]);
     words[4..4 + parameters.len()].copy_from_slice(&parameters);
+    words
+}
+
+fn kernel_words(kernel: Kernel) -> [u32; 10] {
+    [
+        kernel.columns,
+        kernel.rows,
+        kernel.target_x,
+        kernel.target_y,
+        kernel.start,
+        kernel.length,
+        kernel.divisor.to_bits(),
+        kernel.bias.to_bits(),
+        kernel.edge,
+        kernel.preserve_alpha as u32,
+    ]
+}
+
+/// The light, its three numbers, the scale, the constant, the exponent if there is one, and the colour.
+fn lighting_words(lighting: Lighting, exponent: Option<f32>) -> Vec<u32> {
+    let mut words = vec![lighting.light];
+    words.extend(lighting.place.map(f32::to_bits));
+    words.extend([lighting.surface_scale, lighting.constant].map(f32::to_bits));
+    words.extend(exponent.map(f32::to_bits));
+    words.extend(lighting.color.map(u32::from));
     words
 }
 
@@ -176,8 +247,8 @@ fn write_bytes(list: &mut Vec<u8>, bytes: &[u8]) {
 #[cfg(test)]
 mod tests {
     use super::*;
-    use crate::recipe::{SCRATCH, answer};
-    use std::collections::BTreeSet;
+    use crate::recipe::SCRATCH;
+    use std::collections::{BTreeMap, BTreeSet};
 
     const MOST_BYTES: usize = 250_000;
 
@@ -238,13 +309,40 @@ mod tests {
                 steps.len() == 1
             });
         }
-        // Every step so far reads something, so that what is accepted reaches the source.
-        assert!(
-            answers
-                .iter()
-                .all(|answer| (answer.0 == 0) == (answer.2 == 1))
-        );
+        // A refused recipe reaches nothing, and one that draws turbulence need not reach the source.
+        assert!(answers.iter().all(|answer| answer.0 == 0 || answer.2 == 0));
+        let accepted = answers.iter().filter(|answer| answer.0 == 0);
+        let reach = accepted.clone().filter(|answer| answer.2 == 1).count();
+        println!("{reach} reach the source");
+        assert!(reach >= 100 && accepted.count() - reach >= 15);
         assert_eq!(list, super::list());
+    }
+
+    /// Each primitive is run often, and stands where a recipe is refused for each reason that it can give.
+    #[test]
+    fn every_work_is_taken_and_refused() {
+        let mut seen = BTreeMap::new();
+        for recipe in recipes() {
+            let answer = answer(&recipe);
+            let steps: &[Step] = match answer.number {
+                0 => recipe.taken(),
+                1 | 2 | 6 => &[],
+                _ => &recipe.steps[answer.step as usize..][..1],
+            };
+            for step in steps {
+                let name = step.work.primitive().name;
+                seen.entry(name).or_insert([0; 9])[answer.number as usize] += 1;
+            }
+        }
+        for (name, counts) in &seen {
+            println!("{name}: {counts:?}");
+            assert!(counts[0] >= 20, "{name}");
+            for number in OF_STEPS {
+                let often = counts[number as usize] > 1;
+                assert_eq!(often, can_give(name, number), "{name} {number}");
+            }
+        }
+        assert_eq!(seen.len(), primitives::ALL.len());
     }
 
     /// The first test that fails answers: 1, 2, 6, then step by step 7, 8, 3, 4, 5.
@@ -295,5 +393,76 @@ mod tests {
         // An earlier step's fault of a later number comes first.
         recipe.steps[0].work = Work::HueRotate(1.0, 1.0);
         see(&recipe, 5, 0);
+    }
+
+    fn lone_kernel(preserve_alpha: bool) -> Work {
+        Work::Convolve(Kernel {
+            columns: 1,
+            rows: 1,
+            target_x: 0,
+            target_y: 0,
+            start: 0,
+            length: 1,
+            divisor: 1.0,
+            bias: 0.0,
+            edge: 0,
+            preserve_alpha,
+        })
+    }
+
+    /// What each work makes of which kind: the second step takes it, or is refused 8.
+    #[test]
+    fn the_kinds_of_what_is_made() {
+        let lighting = Lighting {
+            light: 1,
+            place: [0.0, 0.0, 9.0],
+            surface_scale: 1.0,
+            constant: 1.0,
+            color: [255; 3],
+        };
+        let moved = Work::Displacement([0, 1], [1.0; 3]);
+        let clouds = Work::Turbulence([1.0; 6], 1, 1, 0);
+        let (straight, premultiplied) = (Kind::Straight, Kind::Premultiplied);
+        let made = |kind: Kind, work: Work, inputs: &[u8]| {
+            let works = [
+                (Work::Saturate(1.0), straight),
+                (Work::Morphology(0, 1.0, 1.0), premultiplied),
+            ];
+            let taken = works.into_iter().filter(|(next, _)| {
+                let steps = vec![
+                    step(clouds, &[], 1),
+                    step(work, inputs, 2),
+                    step(*next, &[2], 3),
+                ];
+                let recipe = Recipe {
+                    width: 1,
+                    height: 1,
+                    kind,
+                    pool: vec![1.0],
+                    count: 3,
+                    steps,
+                    sheets: vec![vec![0; 4]; 5],
+                };
+                answer(&recipe).number == 0
+            });
+            taken.map(|(_, kind)| kind).collect::<Vec<Kind>>()
+        };
+        for source in [straight, premultiplied] {
+            assert_eq!(made(source, moved, &[0, 1]), [source]);
+            assert_eq!(made(source, Work::Diffuse(lighting), &[0]), [straight]);
+            assert_eq!(
+                made(source, Work::Specular(lighting, 1.0), &[0]),
+                [premultiplied]
+            );
+            assert_eq!(made(source, clouds, &[]), [straight]);
+        }
+        assert_eq!(made(straight, lone_kernel(true), &[0]), [premultiplied]);
+        assert_eq!(
+            made(premultiplied, lone_kernel(false), &[0]),
+            [premultiplied]
+        );
+        assert_eq!(made(premultiplied, lone_kernel(true), &[0]), []);
+        assert_eq!(made(straight, lone_kernel(false), &[0]), []);
+        assert_eq!(made(premultiplied, moved, &[1, 0]), []);
     }
 }
