@@ -29,6 +29,9 @@ pub mod RootEnds
 pub mod RootByDigits
 pub mod RootCorrected
 pub mod RootGuessed
+pub mod RootTested
+pub mod FirstRoots
+pub mod RootsBetween
 pub mod NarrowedSize
 pub mod NarrowedSign
 pub mod TowardZero

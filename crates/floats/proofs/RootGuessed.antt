@@ -2,12 +2,12 @@
 use Prim.Native.Nat.{ℕ, _+_, _-_, _*_, _/_, _%_, _≤_, _<_}
 use mathlib.Core.Path.{_≡_, sym, ap, _∙_, subst}
 use mathlib.Core.Bool.{not}
-use native.Mathlib.Nat.{le-trans, le-of-eq, mul-one, mul-le-mul-left}
+use native.Mathlib.Nat.{not-suc-le-zero, le-trans, le-of-eq, mul-one, mul-le-mul-left}
 use native.Mathlib.Omega.{arith}
 use lib.Dec.{T}
 use lib.Ieee.{binary32, binary64, ofBits, nanBits}
 use Rattle.floats.specs.Root.{sqrtOf}
-use Rattle.floats.specs.inner.Roots.{Near, RootDigits, Unpacked, underRoot}
+use Rattle.floats.specs.inner.Roots.{Near, RootDigits, Unpacked, Certain, underRoot}
 use Rattle.floats.proofs.RootPatterns.{pattern-ok, unpacked-high, root-pattern-is, root-pattern-ok}
 use Rattle.floats.proofs.RootCorrected.{doubled-some, scaled-start, scaled-root}
 
@@ -79,3 +79,10 @@ module _ (b q : ℕ) (l : 8388608 ≤ b) (h : b < 2139095040) (near : Near (unde
 
   pub guessed-ok : T (not (nanBits binary32 (((b + 8388608) / 16777216 + 62) * 8388608 + q)))
   guessed-ok = subst (λ (k : ℕ). T (not (nanBits binary32 (k * 8388608 + q)))) place (root-pattern-ok binary32 b m e q (12 - odd) unpacked digits)
+
+  pub found : Certain b (((b + 8388608) / 16777216 + 62) * 8388608 + q)
+  found = record { number = guessed-ok; some = λ z. omega arith; root = λ z. guessed-is }
+
+pub found-none : (b : ℕ) → Certain b 0
+unfolding nanBits
+found-none b = record { number = tt; some = λ h. absurd (not-suc-le-zero h); root = λ h. absurd (not-suc-le-zero h) }

@@ -1,5 +1,5 @@
 -- The whole number to which a rounded fraction is rounded, a half away from zero: it keeps the sign, and is within 3 / 4 of the fraction. Assumes nothing.
-use mathlib.Core.Path.{_≡_, sym, ap, _∙_}
+use mathlib.Core.Path.{_≡_, ap, _∙_}
 use Prim.Native.Nat.{ℕ, suc, _+_, _-_, _*_, _/_, _%_, _^_, _≤_, _<_, min}
 use native.Mathlib.Nat.{mul-le-mul-right, mul-pos, lt-of-mul-lt-mul-right, le-of-mul-le-mul-right, mod-lt, div-add-mod'}
 use native.Mathlib.Omega.{arith}

@@ -1,10 +1,10 @@
 -- A float cut toward zero to a signed integer of h bits and a sign, by where it lies. Assumes nothing.
 use mathlib.Core.Path.{_≡_, refl, sym, ap, _∙_}
-use Prim.Native.Nat.{ℕ, zero, suc, _+_, _-_, _*_, _/_, _^_, _≤_, _<_, min}
+use Prim.Native.Nat.{ℕ, zero, suc, _+_, _-_, _*_, _/_, _^_, _≤_, _<_}
 use native.Mathlib.Nat.{le-trans, lt-trans, lt-of-lt-of-le, lt-of-le-of-lt, one-mul, mul-pos, mul-lt-mul-of-pos-right, zero-div, div-lt-iff-lt-mul, le-div-iff-mul-le, min-eq-left, min-eq-right}
 use native.Mathlib.Omega.{arith}
 use mathlib.Core.Bool.{Bool, true, false, not, _||_, _&&_}
-use lib.IntN.{ℤ, pos, negℤ}
+use lib.IntN.{pos, negℤ}
 use lib.Dec.{T, ltb, eqb, ltb→lt, lt→ltb, nltb→le, eqb→eq}
 use lib.Pow.{pow-pos, pow-mono, pow-lt}
 use lib.Ieee.{Float, nan, inf, fin, up, down, lt, le, eq, toSigned}

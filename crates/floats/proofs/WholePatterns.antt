@@ -1,7 +1,7 @@
 -- A whole number from 2 ^ 52 on has what it is above that in the low digits of its `f64`'s pattern; so has a fraction that is rounded to one. Assumes nothing.
 use mathlib.Core.Path.{_≡_, sym, ap, _∙_, subst}
 use Prim.Native.Nat.{ℕ, suc, _+_, _-_, _*_, _/_, _%_, _^_, _≤_, _<_}
-use native.Mathlib.Nat.{mul-one, lt-of-lt-of-le, lt-of-le-of-lt, mul-lt-mul-of-pos-right, lt-of-mul-lt-mul-right}
+use native.Mathlib.Nat.{mul-one, lt-of-mul-lt-mul-right}
 use native.Mathlib.Omega.{arith}
 use mathlib.Core.Bool.{Bool, false, not}
 use lib.Dec.{T, leb, leb→le}
@@ -35,7 +35,7 @@ fields k h =
     frac : (k : ℕ) → k < 4503599627370496 → (4841369599423283200 + k) % 4503599627370496 ≡ k
     frac k h = omega arith
 
-pattern-value : (k : ℕ) → k < 2 ^ 52 → HasValue (ofBits binary64 (4841369599423283200 + k)) false (2 ^ 52 + k) 1
+pub pattern-value : (k : ℕ) → k < 2 ^ 52 → HasValue (ofBits binary64 (4841369599423283200 + k)) false (2 ^ 52 + k) 1
 pattern-value k h =
     subst (λ (x : Float). HasValue x false (2 ^ 52 + k) 1) (sym (fields k h))
     (revalue (odd 53 false (2 ^ 52 + k) 1074 1074) false ((2 ^ 52 + k) * 2 ^ 1074) (2 ^ 1074) (2 ^ 52 + k) 1 (pow-pos 1074) (sym (mul-one ((2 ^ 52 + k) * 2 ^ 1074))) (odd-sign 53 false (2 ^ 52 + k) 1074 1074))

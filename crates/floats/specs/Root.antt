@@ -1,8 +1,9 @@
 -- The square root, rounded once, over whole numbers by comparing squares: one definition for both formats.
 use Prim.Native.Nat.{ℕ, zero, suc, _+_, _-_, _*_, _/_, _^_, compare}
 use mathlib.Core.Bool.{true, false, cond}
+use mathlib.Core.List.{List, [], _∷_}
 use lib.Dec.{leb}
-use lib.Ieee.{Float, nan, inf, fin, Format, prec, low, up, down, size, nearest, units}
+use lib.Ieee.{Float, nan, inf, fin, Format, binary32, prec, low, up, down, size, nearest, units}
 
 -- the whole part of √n, for an n below 4 ^ k: each step finds one more binary digit
 unfoldable pub rootAt : ℕ → ℕ → ℕ
@@ -34,3 +35,9 @@ sqrtOf f (inf s) = cond s nan (inf s)
 sqrtOf f (fin s zero e) = fin s zero e
 sqrtOf f (fin true (suc m) e) = nan
 sqrtOf f (fin false (suc m) e) = roundRoot f (suc m * up e) (down e)
+
+-- the first n numbers, each its root; the rest as it was
+unfoldable pub firstRoots : ℕ → List Float → List Float
+firstRoots zero xs = xs
+firstRoots (suc n) [] = []
+firstRoots (suc n) (x ∷ xs) = sqrtOf binary32 x ∷ firstRoots n xs

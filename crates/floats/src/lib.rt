@@ -1,6 +1,8 @@
 // What Rust does with an `f32` or an `f64` and Rattle lacks, and the exact tests of parameters, worked out from the bits.
 // Every function takes every float, infinities and NaN included.
+mod blocks;
 mod byte;
+mod certain;
 mod channel;
 mod floor;
 mod narrow;
@@ -12,6 +14,7 @@ mod round;
 mod unit;
 mod whole;
 
+pub use blocks::roots;
 pub use byte::to_byte;
 pub use channel::from_normalized;
 pub use channel::normalized;

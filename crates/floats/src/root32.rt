@@ -148,15 +148,21 @@ fn leading(n: u64) -> u64
     }
 }
 
-// A guess at the root of `under_root(t)`, from one at 1 / √a by the digits of a. Only its range is sure; that it is near
-// keeps the corrections few.
+// A guess at the root of `under_root(t)`. Only its range is sure; that it is near keeps the corrections few.
 fn guess(t: u64) -> u64
     requires { ⌜ t < 16777216 ⌝ }
     ensures { λ r. ⌜ r ≤ 33554432 ⌝ }
 {
+    low_whole(estimate(t))
+}
+
+// About the root of `under_root(t)`, from a guess at 1 / √a by the digits of a. Nothing is sure of it.
+pub fn estimate(t: u64) -> f64
+    requires { ⌜ t < 16777216 ⌝ }
+{
     let a: f64 = f64::from_bits(0x42d0_0000_0000_0000 + t * 0x2000_0000);
     let y: f64 = f64::from_bits(0x3e7b_ffff_2800_0000 - t * 0x1000_0000);
-    low_whole(refined(a, y * (1.68191391 - 0.703952009 * a * y * y)))
+    refined(a, y * (1.68191391 - 0.703952009 * a * y * y))
 }
 
 // √a, where y is about 1 / √a.

@@ -1,9 +1,13 @@
 -- Words of the square roots' private contracts.
 use Prim.Native.Nat.{ℕ, _+_, _-_, _*_, _/_, _%_, _^_, _≤_, _<_}
 use mathlib.Core.Path.{_≡_}
-use mathlib.Core.Bool.{false}
-use lib.Ieee.{Format, prec, emax, low, ofBits}
+use mathlib.Core.Bool.{false, not}
+use mathlib.Core.List.{List}
+use lib.Dec.{T}
+use lib.ListN.{length, getD}
+use lib.Ieee.{Float, nan, Format, binary32, prec, emax, low, ofBits, nanBits}
 use lib.Ieee.Exact.{HasValue}
+use Rattle.floats.specs.Root.{sqrtOf}
 
 -- q is the whole number nearest to √n: (q - 1 / 2)² < n < (q + 1 / 2)²
 pub record Near (n q : ℕ) : Type 0 where
@@ -33,3 +37,28 @@ pub record Unpacked (f : Format) (b m e : ℕ) : Type 0 where
 -- odd, turned round.
 abbrev pub underRoot : ℕ → ℕ
 underRoot t = (8388608 + t % 8388608) * 8388608 * (1 + t / 8388608)
+
+-- r is the pattern of the root of the positive pattern b, or 0
+pub record Certain (b r : ℕ) : Type 0 where
+  pub number : T (not (nanBits binary32 r))
+  pub some : 0 < r → 0 < b
+  pub root : 0 < r → ofBits binary32 r ≡ sqrtOf binary32 (ofBits binary32 b)
+
+-- r is the pattern of x's root, or 0
+pub record Candidate (x : Float) (r : ℕ) : Type 0 where
+  pub number : T (not (nanBits binary32 r))
+  pub root : 0 < r → ofBits binary32 r ≡ sqrtOf binary32 x
+
+-- of the sixteen from `at` on
+abbrev pub Candidates : ℕ → List Float → List ℕ → Type 0
+Candidates at xs rs = (k : ℕ) → k < 16 → Candidate (getD xs (at + k) nan) (getD rs k 0)
+
+abbrev pub AllCertain : List ℕ → Type 0
+AllCertain rs = (k : ℕ) → k < 16 → 0 < getD rs k 0
+
+-- ys has the roots of xs from `from` up to `end`, and xs elsewhere
+pub record RootsBetween (from end : ℕ) (xs ys : List Float) : Type 0 where
+  pub same : length ys ≡ length xs
+  pub rooted : (k : ℕ) → from ≤ k → k < end → getD ys k nan ≡ sqrtOf binary32 (getD xs k nan)
+  pub below : (k : ℕ) → k < from → getD ys k nan ≡ getD xs k nan
+  pub after : (k : ℕ) → end ≤ k → getD ys k nan ≡ getD xs k nan

@@ -1,9 +1,9 @@
--- Nothing is asked of the guess but its range; both starts are no NaN. Assumes nothing.
+-- Both starts are no NaN. Assumes nothing.
 use borrow.Author.Needs.{needs}
 use Prim.Native.Nat.{_*_}
 use Rattle.floats.proofs.RootGuessed.{start-ok, reciprocal-ok}
-use Rattle.floats.proofs.root32.guess.Statement.{statement}
-use Rattle.floats.proofs.root32.guess.Tie as tie
+use Rattle.floats.proofs.root32.estimate.Statement.{statement}
+use Rattle.floats.proofs.root32.estimate.Tie as tie
 
 mul-a : tie.Need-mul-a
 mul-a c = search needs
@@ -26,14 +26,11 @@ float-from-bits-y c = reciprocal-ok (c .args .t * 268435456)
 refined-requires : tie.Need-refined-requires
 refined-requires c κs = search needs
 
-low-whole-requires : tie.Need-low-whole-requires
-low-whole-requires c κs = search needs
-
 returns : tie.Need-returns
 returns c = search needs
 
-pub guess-spec : {M : Type 1} → statement M
-guess-spec =
+pub estimate-spec : {M : Type 1} → statement M
+estimate-spec =
     tie.close
     (tie.spec
     mul-a
@@ -43,5 +40,4 @@ guess-spec =
     sub-y
     float-from-bits-y
     refined-requires
-    low-whole-requires
     returns)
