@@ -1,18 +1,10 @@
 -- Each branch of the code is its case of the definition.
-use Prim.Native.Nat.{ℕ, _≤_}
+use Prim.Native.Nat.{ℕ}
 use mathlib.Core.Path.{_≡_, refl}
 use mathlib.Core.Bool.{Bool, true, false, cond}
 use native.Mathlib.Omega.{arith}
-use lib.Dec.{T, le→leb}
-use lib.IntN.{pos}
-use lib.Ieee.{binary32, inFloat}
 use Rattle.lighting.specs.declared.vector.Vector3.{Vector3}
 use Rattle.lighting.specs.declared.vector.Normalized.the-variants.{Unit, Short}
-
--- a column or a row is an `f32`
-pub exact-float : (n : ℕ) → n ≤ 2048 → T (inFloat binary32 (pos n))
-unfolding inFloat
-exact-float n h = le→leb n 16777216 (omega arith)
 
 -- what a vector that was normalized, or was too short, is by the definition
 pub unit-long : (b : Bool) {v : Vector3} (u w : Vector3) → Unit v ≡ cond b Short (Unit u) → v ≡ cond b w u

@@ -5,7 +5,7 @@ use mathlib.Core.Bool.{Bool, true, false, not, cond, _&&_, true≢false}
 use native.Mathlib.Nat.{mul-pos, min-eq-right, le-div-iff-mul-le}
 use native.Mathlib.Omega.{arith}
 use lib.Dec.{T, ltb, ltb→lt, nltb→le, lit<, lit≤}
-use lib.Ieee.{Float, nan, inf, fin, binary32, prec, low, up, down, odd, units, round, sum, add, lt, le, ofBits, toUnsigned}
+use lib.Ieee.{Float, nan, inf, fin, binary32, up, down, odd, units, round, sum, add, lt, le, ofBits, toUnsigned}
 use lib.Ieee.Back.{round-whole}
 use lib.Ieee.Fits.{down-pos, round-is}
 use lib.Ieee.Exact.{HasValue, odd-sign}

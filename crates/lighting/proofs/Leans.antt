@@ -1,17 +1,19 @@
 -- The leans: alphas that agree round a pixel lean alike, and a line's places are the sheet's.
-use Prim.Native.Nat.{ℕ, _+_, _-_, _*_, _≤_, _<_}
+use Prim.Native.Nat.{ℕ, suc, _+_, _-_, _*_, _≤_, _<_}
 use mathlib.Core.Path.{_≡_, ap, _∙_}
-use mathlib.Core.Bool.{false}
 use mathlib.Core.List.{List}
+use native.Mathlib.Nat.{suc-mul, mul-le-mul-right, not-suc-le-zero}
 use native.Mathlib.Omega.{arith}
 use native.Mathlib.Decide.{decLt, ℕ-discrete}
+use borrow.Author.Count.{below-more}
 use borrow.Author.Tests.{eq-eqb, ne-eqb, lt-ltb, le-ltb}
-use lib.ListN.{length, getD}
+use lib.ListN.{length, getD, set}
+use lib.Seq.{getD-set-same, getD-set-other}
 use lib.IntN.{subℕ}
 use Rattle.sheet.specs.Pixel.{byteAt}
 use Rattle.sheet.proofs.Places.{rows, place-inside}
-use Rattle.lighting.specs.Surface.{alphaAt, before, after, weighted, behind, ahead, lean, atEdge, quarter, leanFactor}
-use Rattle.lighting.specs.inner.Lines.{inLine}
+use Rattle.lighting.specs.Surface.{alphaAt, before, after, weighted, behind, ahead, lean}
+use Rattle.lighting.specs.inner.Lines.{inLine, SmallFrom}
 
 -- ---- where a pixel's alpha lies, by its row and by its column
 pub by-row : (w x y : ℕ) → 4 * x + 4 * w * y + 3 ≡ byteAt w x y 3
@@ -19,6 +21,10 @@ by-row w x y = omega (arith, rows w y)
 
 pub by-column : (w x y : ℕ) → 4 * w * y + 4 * x + 3 ≡ byteAt w x y 3
 by-column w x y = omega (arith, rows w y)
+
+-- a row lies in its sheet
+pub line-inside : (w h v : ℕ) → v < h → 4 * w * v + 4 * w ≤ 4 * w * h
+line-inside w h v q = omega (arith, rows w h, rows w v, suc-mul v w, mul-le-mul-right {m = suc v} {n = h} w q)
 
 module _ (w h : ℕ) (s : List ℕ) (same : length s ≡ 4 * w * h) where
   pub row-reach : (x y : ℕ) → x < w → y < h → 4 * x + 4 * w * y + 3 < length s
@@ -46,7 +52,7 @@ module _ (n : ℕ) (f g : ℕ → ℕ) (i : ℕ) (h : i < n) (e : Agree n i f g)
       go (yes z) = rw (lt-ltb (i + 1) n z) (e (i + 1) z (omega arith) (omega arith))
       go (no z) = rw (le-ltb (i + 1) n (let l : n ≤ i + 1 = omega arith in l))
 
-  weighted-ext : weighted n f i ≡ weighted n g i
+  pub weighted-ext : weighted n f i ≡ weighted n g i
   unfolding weighted
   weighted-ext = ap (λ (a : ℕ). a + 2 * f i + after n f i) before-ext ∙ (ap (λ (a : ℕ). before g i + 2 * a + after n f i) (e i h (omega arith) (omega arith)) ∙ ap (λ (a : ℕ). before g i + 2 * g i + a) after-ext)
 
@@ -55,36 +61,19 @@ unfolding lean
 lean-ext n m f g i j p q e =
     ap (λ (a : ℕ). subℕ a (weighted m (f (behind i)) j)) (weighted-ext m (f (ahead n i)) (g (ahead n i)) j q (λ v a b c. e (ahead n i) v (omega arith) (omega arith) (omega arith) a b c)) ∙ ap (λ (a : ℕ). subℕ (weighted m (g (ahead n i)) j) a) (weighted-ext m (f (behind i)) (g (behind i)) j q (λ v a b c. e (behind i) v (omega arith) (omega arith) (omega arith) a b c))
 
--- ---- a place with both its neighbours
-pub weighted-between : (n : ℕ) (f : ℕ → ℕ) (i : ℕ) → 0 < i → i + 1 < n → f (i - 1) + 2 * f i + f (i + 1) ≡ weighted n f i
-unfolding weighted
-weighted-between n f i p q = let some : i ≡ 0 → ⊥ = not-zero i p in rw (ne-eqb i 0 some, lt-ltb (i + 1) n q)
-  where
-    not-zero : (i : ℕ) → 0 < i → i ≡ 0 → ⊥
-    not-zero i p e = omega arith
+-- ---- a column's line is the column
+pub column-sum : (w h : ℕ) (s : List ℕ) (x y : ℕ) → y < h → weighted h (inLine s (4 * w) (4 * x)) y ≡ weighted h (alphaAt w s x) y
+column-sum w h s x y q = weighted-ext h (inLine s (4 * w) (4 * x)) (alphaAt w s x) y q (λ v a b c. ap (λ (k : ℕ). getD s k 0) (by-row w x v))
 
-pub lean-between : (n m : ℕ) (f : ℕ → ℕ → ℕ) (i j : ℕ) → i + 1 < n → subℕ (weighted m (f (i + 1)) j) (weighted m (f (i - 1)) j) ≡ lean n m f i j
-unfolding lean
-lean-between n m f i j q = let next : i + 1 ≡ ahead n i = omega arith in ap (λ (k : ℕ). subℕ (weighted m (f k) j) (weighted m (f (i - 1)) j)) next
+-- alpha of a column in the row that is read for row y
+pub alpha-in : (w : ℕ) (s : List ℕ) (x v v′ : ℕ) → v ≡ v′ → getD s (4 * w * v + 4 * x + 3) 0 ≡ alphaAt w s x v′
+alpha-in w s x v v′ e = ap (λ (k : ℕ). getD s k 0) (by-column w x v) ∙ ap (alphaAt w s x) e
 
-not-at-edge : (n i : ℕ) → 0 < i → i + 1 < n → atEdge n i ≡ false
-unfolding atEdge
-not-at-edge n i p q = rw (ne-eqb i 0 (some i p), ne-eqb (i + 1) n (less (i + 1) n q))
-  where
-    some : (i : ℕ) → 0 < i → i ≡ 0 → ⊥
-    some i p e = omega arith
+-- ---- columns with one more at each edge
+pub small-none : (at : ℕ) (l : List ℕ) → SmallFrom at 0 l
+small-none at l i h = absurd (not-suc-le-zero h)
 
-    less : (a b : ℕ) → a < b → a ≡ b → ⊥
-    less a b q e = omega arith
-
-pub factor-between : (n m i j : ℕ) → 0 < i → i + 1 < n → 0 < j → j + 1 < m → leanFactor n m i j ≡ quarter
-unfolding leanFactor
-factor-between n m i j p q r s = rw (not-at-edge n i p q, not-at-edge m j r s)
-
--- ---- the lines of a sheet are its rows and columns
-module _ (w h : ℕ) (s : List ℕ) (x y : ℕ) (p : x < w) (q : y < h) where
-  pub row-lean : lean w h (λ i. inLine s (4 * w) (4 * i)) x y ≡ lean w h (alphaAt w s) x y
-  row-lean = lean-ext w h (λ i. inLine s (4 * w) (4 * i)) (alphaAt w s) x y p q (λ u v a b c d e f. ap (λ (k : ℕ). getD s k 0) (by-row w u v))
-
-  pub column-lean : lean h w (λ j. inLine s 4 (4 * w * j)) y x ≡ lean h w (λ j i. alphaAt w s i j) y x
-  column-lean = lean-ext h w (λ j. inLine s 4 (4 * w * j)) (λ j i. alphaAt w s i j) y x q p (λ u v a b c d e f. ap (λ (k : ℕ). getD s k 0) (by-column w v u))
+pub small-more : (at n : ℕ) (l : List ℕ) (v : ℕ) → SmallFrom at n l → at + n < length l → v ≤ 1020 → SmallFrom at (n + 1) (set l (at + n) v)
+small-more at n l v s h b = below-more (λ i. getD (set l (at + n) v) (at + i) 0 ≤ 1020) n
+    (λ i p. rw (getD-set-other l (at + n) (at + i) v 0 (omega arith)) (s i p))
+    (rw (getD-set-same l (at + n) v 0 h) b)

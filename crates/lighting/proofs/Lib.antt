@@ -1,10 +1,11 @@
-mod Differences
 mod Cases
+mod Differences
 mod Leans
+mod Passes
+mod Widening
+mod LitRows
 mod Lengths
 mod Halves
-mod Flat
-mod Pixels
 pub mod Reading
 pub mod WithinAlpha
 pub mod Rules

@@ -44,8 +44,9 @@ use Rattle.lighting.specs.Surface.{alphaAt, ahead, behind, lean, atEdge,
 use Rattle.lighting.specs.Light.{toPoint, lightVector, halfRay, rayOf, flat, along, lightFactor}
 use Rattle.lighting.specs.Lighting.{c256, finiteNumbers, numbersInRange, diffuseAnswer, specularAnswer, litColour, colourOf, litChannel, factorAt, small, lit}
 use Rattle.lighting.specs.Reads.{Reads}
+use Rattle.lighting.specs.inner.Lines.{factorOf}
 use Rattle.lighting.proofs.Reading.{byte-lit}
-use Rattle.lighting.proofs.Rules.{normal, factorOf}
+use Rattle.lighting.proofs.Rules.{normal}
 use Rattle.lighting.proofs.Tilts.{weighted-none, tilt, Tilted, tilted}
 
 abbrev white : Color

@@ -1,7 +1,7 @@
 -- The one definition of a normal gives the Rust's nine texts: `nx` and `ny` are what a text adds less what it takes away.
 use Prim.Native.Nat.{ℕ, _+_, _-_, _*_, _<_}
 use mathlib.Core.Path.{_≡_, refl}
-use mathlib.Core.Bool.{Bool, true, false, cond}
+use mathlib.Core.Bool.{Bool, true, false}
 use mathlib.Core.List.{List}
 use native.Mathlib.Omega.{arith}
 use borrow.Author.Tests.{eq-eqb, ne-eqb, lt-ltb, le-ltb}
@@ -10,14 +10,11 @@ use lib.Ieee.{Float}
 use Rattle.floats.specs.Constants.{half}
 use Rattle.lighting.specs.declared.surface.Normal.{Normal}
 use Rattle.lighting.specs.Surface.{alphaAt, weighted, behind, ahead, lean, turned, atEdge, quarter, third, twoThirds, leanFactor, normalAt}
+use Rattle.lighting.specs.inner.Lines.{factorOf}
 
 -- resvg's `Normal::new`
 abbrev pub normal : (fx fy : Float) → (nx ny : ℤ) → Normal
 normal fx fy nx ny = record { fx = fx; fy = fy; x = turned nx; y = turned ny }
-
--- what a lean counts for, by whether its pixel is at an edge along it, and across it
-abbrev pub factorOf : Bool → Bool → Float
-factorOf e d = cond e (cond d twoThirds half) (cond d third quarter)
 
 -- place i of n: whether it is at an edge, the place ahead of it, and the weighted numbers round it
 record Lies (n i : ℕ) (edge : Bool) (next : ℕ) (sum : (ℕ → ℕ) → ℕ) : Type 0 where

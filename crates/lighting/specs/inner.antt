@@ -1,3 +1,4 @@
 pub mod Rays
 pub mod Lines
 pub mod Pixels
+pub mod Rows

@@ -2,6 +2,7 @@
 mod apply;
 mod light;
 mod pixel;
+mod rows;
 mod surface;
 mod vector;
 

@@ -1,6 +1,5 @@
 // One pixel: how strongly it is lit, and its bytes.
 use crate::light::LightSource;
-use crate::light::Ray;
 use crate::light::Reflection;
 use crate::surface::Normal;
 use crate::vector::Vector3;
@@ -11,7 +10,8 @@ ghost use mathlib.Core.Path.{_≡_};
 ghost use Prim.Native.Nat.{max};
 ghost use Rattle.lighting.specs.Light as Light;
 ghost use Rattle.lighting.specs.Lighting.{litColour};
-ghost use Rattle.lighting.specs.inner.Pixels.{colour, flatFactor, Lit};
+ghost use Rattle.lighting.specs.inner.Pixels.{colour, alongBy, factorBy, Lit};
+ghost use Rattle.lighting.specs.inner.Rays.{rayBy};
 
 // A light's colour.
 pub struct Color {
@@ -29,7 +29,7 @@ pub struct Lighting {
     pub color: Color,
 }
 
-pub fn is_flat(normal: Normal) -> bool
+fn is_flat(normal: Normal) -> bool
     ensures { λ r. ⌜ r ≡ Light.flat normal ⌝ }
 {
     if floats::near_zero(normal.x) {
@@ -40,7 +40,7 @@ pub fn is_flat(normal: Normal) -> bool
 }
 
 // The surface's normal vector.
-fn normal_vector(scale: f32, normal: Normal) -> Vector3
+pub fn normal_vector(scale: f32, normal: Normal) -> Vector3
     ensures { λ r. ⌜ r ≡ Light.normalVector scale normal ⌝ }
 {
     Vector3 {
@@ -50,35 +50,36 @@ fn normal_vector(scale: f32, normal: Normal) -> Vector3
     }
 }
 
-// How far v goes along the surface's normal.
-fn along(scale: f32, normal: Normal, v: Vector3) -> f32
-    ensures { λ r. ⌜ r ≡ Light.along scale normal v ⌝ }
+// How far v goes along the surface's normal, whose vector has the given length.
+fn along(scale: f32, normal: Normal, length: f32, v: Vector3) -> f32
+    ensures { λ r. ⌜ r ≡ alongBy scale normal length v ⌝ }
 {
-    if is_flat(normal) {
-        return v.z;
-    }
     let n = normal_vector(scale, normal);
-    n.dot(v) / floats::sqrt32(n.dot(n))
+    let slanted = n.dot(v) / length;
+    if is_flat(normal) { v.z } else { slanted }
 }
 
-pub fn light_factor(scale: f32, constant: f32, normal: Normal, ray: Ray) -> f32
-    ensures { λ r. ⌜ r ≡ Light.lightFactor scale constant normal ray ⌝ }
+// resvg's `light_factor` along the vector of a ray, where the length of the normal vector and that of the ray's are given.
+pub fn light_factor(
+    lighting: Lighting,
+    normal: Normal,
+    length: f32,
+    vector: Vector3,
+    size: f32,
+) -> f32
+    ensures { λ r. ⌜ r ≡ factorBy (lighting .scale) (lighting .constant) normal length (rayBy (lighting .reflection) vector size) ⌝ }
 {
-    match ray {
-        Ray::Light(v) => constant * along(scale, normal, v),
-        Ray::Half(h, length) => constant * (along(scale, normal, h) / length),
-        Ray::Short => 0.0,
-    }
-}
-
-// `light_factor` of a flat surface.
-pub fn flat_factor(constant: f32, ray: Ray) -> f32
-    ensures { λ r. ⌜ r ≡ flatFactor constant ray ⌝ }
-{
-    match ray {
-        Ray::Light(v) => constant * v.z,
-        Ray::Half(h, length) => constant * (h.z / length),
-        Ray::Short => 0.0,
+    let reflection = lighting.reflection;
+    let along = along(lighting.scale, normal, length, vector);
+    match reflection {
+        Reflection::Diffuse => lighting.constant * along,
+        Reflection::Specular => {
+            if floats::near_zero(size) {
+                0.0
+            } else {
+                lighting.constant * (along / size)
+            }
+        }
     }
 }
 

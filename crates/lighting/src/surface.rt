@@ -1,12 +1,13 @@
 // How the surface leans at a pixel, by the alphas round it.
 ghost use mathlib.Core.Path.{_≡_};
-ghost use Prim.Native.Nat.{_+_, _*_, _≤_, _<_};
-ghost use lib.Dec.{T};
+ghost use Prim.Native.Nat.{ℕ, _+_, _*_, _≤_, _<_};
 ghost use lib.ListN.{length};
 ghost use lib.IntN.{subℕ};
-ghost use Rattle.sheet.specs.Size.{sideLimit};
+ghost use Rattle.sheet.specs.Size.{Sized, sideLimit};
+ghost use Rattle.sheet.specs.Contract.{was, became};
 ghost use Rattle.lighting.specs.Surface as Surface;
-ghost use Rattle.lighting.specs.inner.Lines.{inLine, Inside, Crossing, Between, leanOf, normalOf};
+ghost use Rattle.lighting.specs.inner.Lines.{inLine, Inside, SmallFrom, Columns, factorOf, weightedIn, normalIn};
+ghost use Rattle.lighting.specs.inner.Rows.{Changed};
 
 const FACTOR_1_2: f32 = 1.0 / 2.0;
 
@@ -105,131 +106,114 @@ fn turned(ahead: u16, behind: u16) -> f32
     difference as f32
 }
 
-// The lean along a line, turned round: alphas ahead against those behind, each weighted across the line.
-fn lean(src: &[u8], along: Line, across: Line) -> f32
-    requires { ⌜ Crossing (now src) along across ⌝ }
-    ensures { λ r. ⌜ r ≡ leanOf (now (src .entry)) along across ⌝ }
+fn at_edge(at: u16, count: u16) -> bool
+    requires { ⌜ at < count ⌝ }
+    ensures { λ r. ⌜ r ≡ Surface.atEdge count at ⌝ }
 {
-    turned(
-        weighted(src, along.step * ahead(along), across),
-        weighted(src, along.step * behind(along), across),
-    )
-}
-
-fn at_edge(line: Line) -> bool
-    requires { ⌜ line .at < line .count ⌝ }
-    ensures { λ r. ⌜ r ≡ Surface.atEdge (line .count) (line .at) ⌝ }
-{
-    if line.at == 0 {
+    if at == 0 {
         return true;
     }
-    line.at + 1 == line.count
+    at + 1 == count
 }
 
-// What a lean along a line counts for.
-fn factor(along: Line, across: Line) -> f32
-    requires { ⌜ (along .at < along .count) × (across .at < across .count) ⌝ }
-    ensures { λ r. ⌜ r ≡ Surface.leanFactor (along .count) (across .count) (along .at) (across .at) ⌝ }
+// What a lean counts for, by whether its pixel is at an edge along it, and across it.
+fn factor(along: bool, across: bool) -> f32
+    ensures { λ r. ⌜ r ≡ factorOf along across ⌝ }
 {
-    if at_edge(along) {
-        if at_edge(across) {
-            FACTOR_2_3
-        } else {
-            FACTOR_1_2
-        }
-    } else if at_edge(across) {
+    if along {
+        if across { FACTOR_2_3 } else { FACTOR_1_2 }
+    } else if across {
         FACTOR_1_3
     } else {
         FACTOR_1_4
     }
 }
 
-// Whether a place has both its neighbours.
-fn between(line: Line) -> bool
-    requires { ⌜ line .at < line .count ⌝ }
-    ensures { λ r. ⌜ (T r → Between line) ⌝ }
+// The alphas of row y's columns, from place 1 on: weighted across the row, and those of the rows above and below.
+fn gather(
+    src: &[u8],
+    w: usize,
+    h: usize,
+    y: usize,
+    sums: &mut [u16],
+    above: &mut [u8],
+    below: &mut [u8],
+)
+    requires { ⌜ Sized w h × (length (now src) ≡ 4 * w * h) × (y < h) ⌝ }
+    requires { ⌜ (w + 2 ≤ length (now sums)) × (w + 2 ≤ length (now above)) × (w + 2 ≤ length (now below)) ⌝ }
+    ensures { λ _. ⌜ Changed 0 (λ x. Surface.weighted h (Surface.alphaAt w (was src) x) y) 1 w (was sums) (became sums) × SmallFrom 1 w (became sums) ⌝ }
+    ensures { λ _. ⌜ Changed 0 (λ x. Surface.alphaAt w (was src) x (Surface.behind y)) 1 w (was above) (became above) ⌝ }
+    ensures { λ _. ⌜ Changed 0 (λ x. Surface.alphaAt w (was src) x (Surface.ahead h y)) 1 w (was below) (became below) ⌝ }
 {
-    if line.at == 0 {
-        return false;
-    }
-    line.at + 1 < line.count
-}
-
-// `weighted` where the pixel has both neighbours.
-fn weighted_between(src: &[u8], first: usize, line: Line) -> u16
-    requires { ⌜ Inside (now src) line first ⌝ }
-    requires { ⌜ Between line ⌝ }
-    ensures { λ r. ⌜ (r ≡ Surface.weighted (line .count) (inLine (now (src .entry)) (line .step) first) (line .at)) × (r ≤ 1020) ⌝ }
-{
-    let own = alpha(src, first, line.step, line.at);
-    let last = alpha(src, first, line.step, line.at - 1);
-    let next = alpha(src, first, line.step, line.at + 1);
-    last + 2 * own + next
-}
-
-// `lean` where the pixel has all its neighbours.
-fn lean_between(src: &[u8], along: Line, across: Line) -> f32
-    requires { ⌜ Crossing (now src) along across ⌝ }
-    requires { ⌜ Between along × Between across ⌝ }
-    ensures { λ r. ⌜ r ≡ leanOf (now (src .entry)) along across ⌝ }
-{
-    turned(
-        weighted_between(src, along.step * (along.at + 1), across),
-        weighted_between(src, along.step * (along.at - 1), across),
-    )
-}
-
-// How the surface leans at a pixel that has all its neighbours.
-fn normal_between(src: &[u8], columns: Line, rows: Line) -> Normal
-    requires { ⌜ Crossing (now src) columns rows × Crossing (now src) rows columns ⌝ }
-    requires { ⌜ Between columns × Between rows ⌝ }
-    ensures { λ r. ⌜ r ≡ normalOf (now (src .entry)) columns rows ⌝ }
-{
-    Normal {
-        fx: FACTOR_1_4,
-        fy: FACTOR_1_4,
-        x: lean_between(src, columns, rows),
-        y: lean_between(src, rows, columns),
-    }
-}
-
-// How the surface leans where two lines cross.
-fn normal_of(src: &[u8], columns: Line, rows: Line) -> Normal
-    requires { ⌜ Crossing (now src) columns rows × Crossing (now src) rows columns ⌝ }
-    ensures { λ r. ⌜ r ≡ normalOf (now (src .entry)) columns rows ⌝ }
-{
-    if between(columns) {
-        if between(rows) {
-            return normal_between(src, columns, rows);
-        }
-    }
-    let fx = factor(columns, rows);
-    let fy = factor(rows, columns);
-    let lean_x = lean(src, columns, rows);
-    let lean_y = lean(src, rows, columns);
-    Normal {
-        fx,
-        fy,
-        x: lean_x,
-        y: lean_y,
-    }
-}
-
-// How the surface leans at the pixel in column x and row y.
-pub fn normal_at(src: &[u8], width: usize, height: usize, x: usize, y: usize) -> Normal
-    requires { ⌜ (x < width) × (y < height) × (width ≤ sideLimit) ⌝ }
-    requires { ⌜ length (now src) ≡ 4 * width * height ⌝ }
-    ensures { λ r. ⌜ r ≡ Surface.normalAt width height (now (src .entry)) x y ⌝ }
-{
-    let columns = Line {
-        at: x,
-        count: width,
-        step: 4,
-    };
     let rows = Line {
         at: y,
-        count: height,
-        step: 4 * width,
+        count: h,
+        step: 4 * w,
     };
-    normal_of(src, columns, rows)
+    let higher = rows.step * behind(rows);
+    let lower = rows.step * ahead(rows);
+    let mut x = 0;
+    while x < w {
+        sums[1 + x] = weighted(src, 4 * x, rows);
+        above[1 + x] = src[higher + 4 * x + 3];
+        below[1 + x] = src[lower + 4 * x + 3];
+        x += 1;
+    }
+}
+
+// The columns of row y with one more at each edge: the edge's own sum again, and alphas of 0.
+pub fn columns(
+    src: &[u8],
+    w: usize,
+    h: usize,
+    y: usize,
+    sums: &mut [u16],
+    above: &mut [u8],
+    below: &mut [u8],
+)
+    requires { ⌜ Sized w h × (length (now src) ≡ 4 * w * h) × (y < h) ⌝ }
+    requires { ⌜ (w + 2 ≤ length (now sums)) × (w + 2 ≤ length (now above)) × (w + 2 ≤ length (now below)) ⌝ }
+    ensures { λ _. ⌜ Columns w (became sums) (became above) (became below) ⌝ }
+    ensures { λ _. ⌜ ((x : ℕ) → x < w → normalIn w h (became sums) (became above) (became below) x y ≡ Surface.normalAt w h (was src) x y) ⌝ }
+{
+    gather(src, w, h, y, sums, above, below);
+    sums[0] = sums[1];
+    sums[w + 1] = sums[w];
+    above[0] = 0;
+    above[w + 1] = 0;
+    below[0] = 0;
+    below[w + 1] = 0;
+}
+
+// The alphas of three columns of a row by the weights 1, 2, 1.
+fn weighted_in(row: &[u8], x: usize) -> u16
+    requires { ⌜ x + 2 < length (now row) ⌝ }
+    ensures { λ r. ⌜ (r ≡ weightedIn (was row) x) × (r ≤ 1020) ⌝ }
+{
+    wide(row[x]) + 2 * wide(row[x + 1]) + wide(row[x + 2])
+}
+
+// How the surface leans at the pixel in column x and row y, by the columns of the row.
+pub fn normal_in(
+    w: usize,
+    h: usize,
+    sums: &[u16],
+    above: &[u8],
+    below: &[u8],
+    x: usize,
+    y: usize,
+) -> Normal
+    requires { ⌜ Columns w (now sums) (now above) (now below) × (x < w) × (y < h) × (w ≤ sideLimit) × (h ≤ sideLimit) ⌝ }
+    ensures { λ r. ⌜ r ≡ normalIn w h (was sums) (was above) (was below) x y ⌝ }
+{
+    let side = at_edge(x as u16, w as u16);
+    let end = at_edge(y as u16, h as u16);
+    let lower = weighted_in(below, x);
+    let higher = weighted_in(above, x);
+    Normal {
+        fx: factor(side, end),
+        fy: factor(end, side),
+        x: turned(sums[x + 2], sums[x]),
+        y: turned(lower, higher),
+    }
 }

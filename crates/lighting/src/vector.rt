@@ -3,6 +3,7 @@ ghost use mathlib.Core.Path.{_≡_};
 ghost use mathlib.Core.Bool.{cond};
 ghost use Rattle.floats.specs.Order.{nearZero};
 ghost use Rattle.lighting.specs.Vectors as Vectors;
+ghost use Rattle.lighting.specs.inner.Rays.{unitBy};
 
 pub struct Vector3 {
     pub x: f32,
@@ -53,22 +54,23 @@ impl Vector3 {
         }
     }
 
-    pub fn normalized(self) -> Normalized
-        ensures { λ r. ⌜ r ≡ cond (nearZero (Vectors.length self)) Normalized.Short (Normalized.Unit (Vectors.divided self (Vectors.length self))) ⌝ }
+    // The vector's length is given.
+    pub fn normalized(self, length: f32) -> Normalized
+        ensures { λ r. ⌜ r ≡ cond (nearZero length) Normalized.Short (Normalized.Unit (Vectors.divided self length)) ⌝ }
     {
-        let length = floats::sqrt32(self.dot(self));
+        let unit = self.divided(length);
         if floats::near_zero(length) {
             Normalized::Short
         } else {
-            Normalized::Unit(self.divided(length))
+            Normalized::Unit(unit)
         }
     }
 
-    // Divided by its length; a vector whose length is near zero stays as it is.
-    pub fn unit(self) -> Vector3
-        ensures { λ r. ⌜ r ≡ Vectors.unitOf self ⌝ }
+    // Divided by its length, which is given; a vector whose length is near zero stays as it is.
+    pub fn unit(self, length: f32) -> Vector3
+        ensures { λ r. ⌜ r ≡ unitBy self length ⌝ }
     {
-        let normalized = self.normalized();
+        let normalized = self.normalized(length);
         match normalized {
             Normalized::Unit(v) => v,
             Normalized::Short => self,

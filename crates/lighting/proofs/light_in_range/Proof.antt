@@ -31,7 +31,9 @@ returns : tie.Need-returns
 returns c = rw (c .before .before .light .given .1) (c .unit-triple .ensures)
 
 returns-2 : tie.Need-returns-2
-returns-2 c = rw (c .before .before .before .before .before .before .light2 .given .1) (rw (c .before .both .ensures, c .before .before .before .before .is-place .ensures, c .before .before .before .is-place2 .ensures, c .before .before .is-place3 .ensures) at (c .both2 .ensures))
+returns-2 c =
+    let the-light2 = c .before .before .before .before .before .before .light2 in
+    rw (the-light2 .given .1) (rw (c .before .both .ensures, c .before .before .before .before .is-place .ensures, c .before .before .before .is-place2 .ensures, c .before .before .is-place3 .ensures) at (c .both2 .ensures))
 
 pub light-in-range-spec : {M : Type 1} → statement M
 light-in-range-spec =

@@ -27,7 +27,10 @@ of-tests-requires c κs = search needs
 
 returns : tie.Need-returns
 unfolding specularAnswer
-returns c = rw (c .before .before .before .before .both .ensures, c .before .both2 .ensures, c .before .before .before .before .before .before .finite-numbers .ensures, c .before .before .before .before .before .is-finite .ensures, c .before .before .before .numbers-in-range .ensures, c .before .before .within .ensures) at (c .of-tests .ensures)
+returns c =
+    let the-finite-numbers = c .before .before .before .before .before .before .finite-numbers in
+    let the-is-finite = c .before .before .before .before .before .is-finite in
+    rw (c .before .before .before .before .both .ensures, c .before .both2 .ensures, the-finite-numbers .ensures, the-is-finite .ensures, c .before .before .before .numbers-in-range .ensures, c .before .before .within .ensures) at (c .of-tests .ensures)
 
 pub test-specular-spec : {M : Type 1} → statement M
 test-specular-spec =

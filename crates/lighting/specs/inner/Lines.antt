@@ -1,11 +1,14 @@
 -- Words of the surface's contracts: pixels in a line, a step of bytes apart.
-use Prim.Native.Nat.{ℕ, _+_, _*_, _<_}
+use Prim.Native.Nat.{ℕ, _+_, _*_, _≤_, _<_}
+use mathlib.Core.Bool.{Bool, cond}
 use mathlib.Core.List.{List}
 use lib.ListN.{length, getD}
+use lib.IntN.{subℕ}
 use lib.Ieee.{Float}
+use Rattle.floats.specs.Constants.{half}
 use Rattle.lighting.specs.declared.surface.Line.{Line}
 use Rattle.lighting.specs.declared.surface.Normal.{Normal}
-use Rattle.lighting.specs.Surface.{lean, turned, leanFactor}
+use Rattle.lighting.specs.Surface.{turned, quarter, third, twoThirds, leanFactor}
 
 -- alpha of the pixel in place j of a line that begins at byte `first`
 abbrev pub inLine : List ℕ → (step first j : ℕ) → ℕ
@@ -16,26 +19,31 @@ pub record Inside (s : List ℕ) (line : Line) (first : ℕ) : Type 0 where
   pub place : line .at < line .count
   pub reach : (j : ℕ) → j < line .count → first + line .step * j + 3 < length s
 
--- two lines that cross in a pixel; each place of the one with each place of the other lies in the sheet
-pub record Crossing (s : List ℕ) (one other : Line) : Type 0 where
-  pub place : one .at < one .count
-  pub other-place : other .at < other .count
-  pub reach : (i j : ℕ) → i < one .count → j < other .count → one .step * i + other .step * j + 3 < length s
+-- what a lean counts for, by whether its pixel is at an edge along it, and across it
+abbrev pub factorOf : Bool → Bool → Float
+factorOf e d = cond e (cond d twoThirds half) (cond d third quarter)
 
--- the line's own place has one before it and one after it
-pub record Between (line : Line) : Type 0 where
-  pub low : 0 < line .at
-  pub high : line .at + 1 < line .count
+-- ---- the columns of a row, from place 1 on
+-- n sums from `at` on are small
+abbrev pub SmallFrom : (at n : ℕ) → List ℕ → Type 0
+SmallFrom at n sums = (i : ℕ) → i < n → getD sums (at + i) 0 ≤ 1020
 
--- the lean along a line where another crosses it, turned round
-abbrev pub leanOf : List ℕ → (along across : Line) → Float
-leanOf s along across = turned (lean (along .count) (across .count) (λ i. inLine s (across .step) (along .step * i)) (along .at) (across .at))
+-- there are w columns and one more at each edge
+pub record Columns (w : ℕ) (sums above below : List ℕ) : Type 0 where
+  pub sums-room : w + 2 ≤ length sums
+  pub above-room : w + 2 ≤ length above
+  pub below-room : w + 2 ≤ length below
+  pub small : (i : ℕ) → i < w + 2 → getD sums i 0 ≤ 1020
 
--- how the surface leans where a row's line and a column's cross
-abbrev pub normalOf : List ℕ → (columns rows : Line) → Normal
-normalOf s columns rows = record {
-  fx = leanFactor (columns .count) (rows .count) (columns .at) (rows .at);
-  fy = leanFactor (rows .count) (columns .count) (rows .at) (columns .at);
-  x = leanOf s columns rows;
-  y = leanOf s rows columns;
+-- the alphas of columns x, x + 1 and x + 2 by the weights 1, 2, 1
+abbrev pub weightedIn : List ℕ → ℕ → ℕ
+weightedIn l x = getD l x 0 + 2 * getD l (x + 1) 0 + getD l (x + 2) 0
+
+-- how the surface leans in column x and row y, by the columns
+abbrev pub normalIn : (w h : ℕ) → (sums above below : List ℕ) → (x y : ℕ) → Normal
+normalIn w h sums above below x y = record {
+  fx = leanFactor w h x y;
+  fy = leanFactor h w y x;
+  x = turned (subℕ (getD sums (x + 2) 0) (getD sums x 0));
+  y = turned (subℕ (weightedIn below x) (weightedIn above x));
 }

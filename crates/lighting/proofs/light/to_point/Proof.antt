@@ -1,36 +1,38 @@
 -- The code is the formula, in its order.
 use borrow.Author.Needs.{needs}
-use Rattle.lighting.specs.Light.{toPoint}
-use Rattle.lighting.proofs.Cases.{exact-float}
+use borrow.Author.Needs.{needs}
 use Rattle.lighting.proofs.light.to_point.Statement.{statement}
 use Rattle.lighting.proofs.light.to_point.Tie as tie
 
 normalized-requires : tie.Need-normalized-requires
 normalized-requires c κs = search needs
 
+cast-column : tie.Need-cast-column
+cast-column c = search needs
+
+cast-row : tie.Need-cast-row
+cast-row c = search needs
+
 int-to-float-nx : tie.Need-int-to-float-nx
-int-to-float-nx c = exact-float _ (c .before .before .pre .0)
+int-to-float-nx c = search needs
 
 int-to-float-ny : tie.Need-int-to-float-ny
-int-to-float-ny c = exact-float _ (c .before .before .before .pre .1)
+int-to-float-ny c = search needs
 
 sub-requires : tie.Need-sub-requires
 sub-requires c κs = search needs
 
-unit-requires : tie.Need-unit-requires
-unit-requires c κs = search needs
-
 returns : tie.Need-returns
-unfolding toPoint
-returns c = rw (c .before .sub .ensures, c .before .before .before .before .normalized .ensures) at (c .unit .ensures)
+returns c = rw (c .before .before .before .normalized .ensures) at (c .sub .ensures)
 
 pub to-point-spec : {M : Type 1} → statement M
 to-point-spec =
     tie.close
     (tie.spec
     normalized-requires
+    cast-column
+    cast-row
     int-to-float-nx
     int-to-float-ny
     sub-requires
-    unit-requires
     returns)

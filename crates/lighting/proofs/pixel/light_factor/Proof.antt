@@ -1,41 +1,34 @@
--- Each ray has its formula.
+-- Each reflection has its formula; a short half vector gives no light.
+use borrow.Author.Needs.{needs}
+use mathlib.Core.Path.{sym, _∙_}
 use borrow.Author.Needs.{needs}
 use Rattle.lighting.proofs.pixel.light_factor.Statement.{statement}
 use Rattle.lighting.proofs.pixel.light_factor.Tie as tie
 
-enum-known-ray : tie.Need-enum-known-ray
-enum-known-ray c = search needs
-
 along-requires : tie.Need-along-requires
 along-requires c κs = search needs
-
-enum-known-ray-2 : tie.Need-enum-known-ray-2
-enum-known-ray-2 c = search needs
-
-along-requires-2 : tie.Need-along-requires-2
-along-requires-2 c κs = search needs
 
 enum-told : tie.Need-enum-told
 enum-told c = search needs
 
+enum-told-2 : tie.Need-enum-told-2
+enum-told-2 c = search needs
+
+near-zero-requires : tie.Need-near-zero-requires
+near-zero-requires c κs = search needs
+
 returns : tie.Need-returns
-returns c = rw (c .before .before .ray .given .1, c .along .ensures)
+returns c = rw (c .before .enum-told .given .1, c .before .before .before .along .ensures)
 
 returns-2 : tie.Need-returns-2
-returns-2 c = rw (c .before .before .ray2 .given .1, c .along2 .ensures)
+returns-2 c = rw (c .before .before .enum-told2 .given .1, sym (c .before .near-zero .ensures) ∙ c .if1 .taken)
 
 returns-3 : tie.Need-returns-3
-returns-3 c = search needs
+returns-3 c =
+    let the-along = c .before .before .before .before .before .along in
+    rw (c .before .before .before .enum-told2 .given .1, sym (c .before .before .near-zero .ensures) ∙ c .before .if1 .left, the-along .ensures)
 
 pub light-factor-spec : {M : Type 1} → statement M
 light-factor-spec =
     tie.close
-    (tie.spec
-    enum-known-ray
-    along-requires
-    enum-known-ray-2
-    along-requires-2
-    enum-told
-    returns
-    returns-2
-    returns-3)
+    (tie.spec along-requires enum-told enum-told-2 near-zero-requires returns returns-2 returns-3)

@@ -23,7 +23,9 @@ of-requires : tie.Need-of-requires
 of-requires c κs = search needs
 
 returns : tie.Need-returns
-returns c = channels-as (c .of .ensures) (c .before .before .before .before .before .compute .ensures) (c .before .before .before .before .compute2 .ensures) (c .before .before .before .compute3 .ensures) (rw (c .before .larger2 .ensures, c .before .before .larger .ensures, c .before .before .before .before .before .compute .ensures, c .before .before .before .before .compute2 .ensures, c .before .before .before .compute3 .ensures))
+returns c =
+    let the-compute = c .before .before .before .before .before .compute in
+    channels-as (c .of .ensures) (the-compute .ensures) (c .before .before .before .before .compute2 .ensures) (c .before .before .before .compute3 .ensures) (rw (c .before .larger2 .ensures, c .before .before .larger .ensures, the-compute .ensures, c .before .before .before .before .compute2 .ensures, c .before .before .before .compute3 .ensures))
 
 pub specular-spec : {M : Type 1} → statement M
 specular-spec =

@@ -1,7 +1,8 @@
--- The first place and the last are at an edge.
+-- The first place, then the last.
 use borrow.Author.Needs.{needs}
 use borrow.Author.Tests.{eq-eqb, ne-eqb}
 use Rattle.lighting.specs.Surface.{atEdge}
+use borrow.Author.Needs.{needs}
 use Rattle.lighting.proofs.surface.at_edge.Statement.{statement}
 use Rattle.lighting.proofs.surface.at_edge.Tie as tie
 
@@ -14,7 +15,7 @@ add-result c = search needs
 
 returns-2 : tie.Need-returns-2
 unfolding atEdge
-returns-2 c = rw (ne-eqb _ _ (c .before .before .if1 .left))
+returns-2 c = rw (ne-eqb _ _ (c .if1 .left))
 
 pub at-edge-spec : {M : Type 1} → statement M
 at-edge-spec = tie.close (tie.spec returns add-result returns-2)

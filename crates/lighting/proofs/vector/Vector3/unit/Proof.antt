@@ -2,7 +2,6 @@
 use borrow.Author.Needs.{needs}
 use mathlib.Core.Path.{sym, _∙_}
 use Rattle.floats.specs.Order.{nearZero}
-use Rattle.lighting.specs.Vectors.{length, unitOf}
 use Rattle.lighting.proofs.Cases.{unit-long, unit-short}
 use Rattle.lighting.proofs.vector.Vector3.unit.Statement.{statement}
 use Rattle.lighting.proofs.vector.Vector3.unit.Tie as tie
@@ -17,13 +16,10 @@ enum-told : tie.Need-enum-told
 enum-told c = search needs
 
 returns : tie.Need-returns
-unfolding unitOf
-returns c = unit-long (nearZero (length (c .before .before .before .before .args .self))) _ _ (sym (c .before .normalized2 .given .1) ∙ c .before .before .before .normalized .ensures)
+returns c = unit-long (nearZero (c .before .before .before .before .args .length)) _ _ (sym (c .before .normalized2 .given .1) ∙ c .before .before .before .normalized .ensures)
 
 returns-2 : tie.Need-returns-2
-unfolding unitOf
-returns-2 c = unit-short (nearZero (length (c .before .before .before .args .self))) _ _ (sym (c .enum-told .given .1) ∙ c .before .before .normalized .ensures)
+returns-2 c = unit-short (nearZero (c .before .before .before .args .length)) _ _ (sym (c .enum-told .given .1) ∙ c .before .before .normalized .ensures)
 
 pub unit-spec : {M : Type 1} → statement M
-unit-spec =
-    tie.close (tie.spec normalized-requires enum-known-normalized enum-told returns returns-2)
+unit-spec = tie.close (tie.spec normalized-requires enum-known-normalized enum-told returns returns-2)
