@@ -1,12 +1,12 @@
 -- The bytes of a pixel are the definition's, and the rows fill the sheet.
-use Prim.Native.Nat.{ℕ, suc, _+_, _*_, _%_, _≤_, _<_}
+use Prim.Native.Nat.{ℕ, suc, _+_, _*_, _≤_, _<_}
 use mathlib.Core.Path.{_≡_, refl, sym, _∙_}
 use mathlib.Core.Bool.{Bool, true, false, cond, _&&_, true≢false}
 use mathlib.Core.List.{List}
 use native.Mathlib.Nat.{not-suc-le-zero, mul-one, mul-assoc, mul-comm, mul-le-mul-left, mul-le-mul-right, lt-of-mul-lt-mul-right}
 use native.Mathlib.Omega.{arith}
 use lib.Dec.{leb, leb→le}
-use lib.ListN.{length, getD}
+use lib.ListN.{length}
 use lib.Ieee.{Float, neg}
 use Rattle.floats.proofs.Tests.{T-true}
 use Rattle.sheet.specs.declared.Answer.the-variants.{Done}
@@ -19,7 +19,8 @@ use Rattle.turbulence.specs.declared.Turbulence.{Turbulence}
 use Rattle.turbulence.specs.Constants.{d0, d1, sixteenth, d16, d4096}
 use Rattle.turbulence.specs.Noise.{summed}
 use Rattle.turbulence.specs.Tables.{selectorOf, gradientsX, gradientsY}
-use Rattle.turbulence.specs.Turbulence.{bothWithin, allFinite, allInRange, turbulenceAnswer, pointOn, valueBy, byteOf, drawn}
+use Rattle.turbulence.specs.Turbulence.{bothWithin, allFinite, allInRange, turbulenceAnswer, valueBy, byteOf, drawn}
+use Rattle.turbulence.specs.inner.Rows.{columnPoint, rowPoint}
 use Rattle.turbulence.specs.inner.Drawn.{byteBy, bytesBy, PixelBy, RowRoom, Begun}
 
 -- ---- two tests in order
@@ -43,12 +44,11 @@ octaves-few t e =
     let octaves = then-true (bothWithin d0 (t .«base_frequency_x») (t .«base_frequency_y») d16) (leb (t .«num_octaves») 8) frequencies in
     leb→le (t .«num_octaves») 8 (T-true octaves)
 
--- a byte of a channel's sum at a point
-module _ (t : Turbulence) (selector : List ℕ) (gx gy : List Float) (c px py : ℕ) where
-  pub byte-is : {x y s : Float} {b : ℕ} → x ≡ pointOn (t .«offset_x») (t .sx) (t .«base_frequency_x») px → y ≡ pointOn (t .«offset_y») (t .sy) (t .«base_frequency_y») py
-      → s ≡ summed (t .«fractal_noise») selector gx gy c (t .«num_octaves») x y d1 d0 → b ≡ byteOf (t .«fractal_noise») s → b ≡ byteBy t selector gx gy c px py
+-- a byte of a channel's sum at a pixel
+module _ (t : Turbulence) (selector : List ℕ) (gx gy : List Float) (c x y : ℕ) where
+  pub byte-is : {s : Float} {b : ℕ} → s ≡ summed (t .«fractal_noise») selector gx gy c (t .«num_octaves») (columnPoint t x) (rowPoint t y) d1 d0 → b ≡ byteOf (t .«fractal_noise») s → b ≡ byteBy t selector gx gy c x y
   unfolding valueBy
-  byte-is {x} {y} {s} {b} ex ey es eb = rw (eb, es, ex, ey)
+  byte-is {s} {b} e f = rw (f, e)
 
 -- ---- rows
 pub none-begun : (f : ℕ → ℕ) (d : List ℕ) → Begun f 0 d

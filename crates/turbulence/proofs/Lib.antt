@@ -9,6 +9,7 @@ pub mod Entries
 mod Modulo
 mod Nearest
 mod Points
+mod Columns
 mod Octaves
 mod Settled
 mod Bytes

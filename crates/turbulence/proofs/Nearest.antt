@@ -1,14 +1,13 @@
 -- A position that is raised by 2 ^ 52 has the nearest whole number in its pattern: that is the whole part, or one more.
-use Prim.Native.Nat.{ℕ, suc, _+_, _-_, _*_, _/_, _%_, _^_, _≤_, _<_, min}
+use Prim.Native.Nat.{ℕ, suc, _+_, _-_, _*_, _/_, _%_, _^_, _≤_, _<_}
 use mathlib.Core.Path.{_≡_, refl, sym, ap, _∙_, subst}
-use mathlib.Core.Bool.{Bool, true, false, not}
+use mathlib.Core.Bool.{true, false, not}
 use native.Mathlib.Nat.{zero-lt-suc, le-trans, mul-one, div-lt-iff-lt-mul, le-div-iff-mul-le, min-eq-left}
 use native.Mathlib.Omega.{arith}
 use lib.IntN.{pos}
 use lib.Dec.{T, ltb→lt, leb→le, le→leb, lit≤, lit<}
-use lib.Ieee.{Float, nan, inf, fin, binary64, up, down, round, sub, lt, fits, isNan, ofBits, ofInt, toBits, toSigned}
+use lib.Ieee.{Float, nan, inf, fin, binary64, up, down, round, sub, lt, isNan, ofBits, ofInt, toBits, toSigned}
 use lib.Ieee.Fits.{down-pos, add-fits, round-fits}
-use lib.Ieee.Exact.{HasValue}
 use lib.Ieee.Back.{round-whole, whole-unique}
 use lib.Ieee.Positive.{num, den, den-pos}
 use Rattle.floats.specs.Operators.{_⊟_}
@@ -18,7 +17,6 @@ use Rattle.floats.proofs.HalfAway.{ofInt-is}
 use Rattle.floats.proofs.NearestWhole as whole
 use Rattle.floats.proofs.NearestWhole.{bounded-value, wholeFrom}
 use Rattle.floats.proofs.WholePatterns.{Counts, counts}
-use Rattle.turbulence.specs.declared.lattice.Place.{Place}
 use Rattle.turbulence.specs.Constants.{d1}
 use Rattle.turbulence.specs.Noise.{cell, fraction}
 use Rattle.turbulence.specs.inner.Places.{Placed}

@@ -11,13 +11,12 @@ use lib.IntN.{ℤ, pos, negsuc}
 use lib.Ieee.{Float, nan, inf, fin, binary64, up, down, unlike, round, mul, div, ofBits}
 use lib.Ieee.Fits.{up-pos, down-pos}
 use lib.Ieee.Scale.{round-same}
-use Rattle.floats.specs.Operators.{_⊞_, _⊠_, _⧄_}
+use Rattle.floats.specs.Operators.{_⊞_, _⊠_}
 use Rattle.floats.specs.Absolute.{absolute}
 use Rattle.turbulence.specs.declared.noise.Point.{Point}
 use Rattle.turbulence.specs.declared.noise.Channels.{Channels}
-use Rattle.turbulence.specs.declared.noise.Column.{Column}
 use Rattle.turbulence.specs.Constants.{d0, d1, d2}
-use Rattle.turbulence.specs.Noise.{pointAt, noise, octave, summed}
+use Rattle.turbulence.specs.Noise.{corner, pointAt, noise, octave, summed}
 use Rattle.turbulence.specs.inner.Rows.{doubled, RowAt}
 use Rattle.turbulence.specs.inner.Columns.{pointWith, ColumnAt}
 use Rattle.turbulence.specs.inner.Sums.{withOctave, noisesOf, sizesOf, addedTo, Inverse, WithOctave, Sum, none}
@@ -118,14 +117,14 @@ unfolding doubled
 doubled-once k y0 y e = rw (add-one, e)
 
 -- the point of a row and of a column
-point-there : (selector cells : List ℕ) (fractions curves : List Float) (x0 y0 : Float) (c : Column) (k : ℕ) {p : Point} → k < 8 → RowAt y0 cells fractions curves → ColumnAt selector cells x0 k c
-    → p ≡ pointWith (getD (c .b00) k 0) (getD (c .b10) k 0) (getD (c .b01) k 0) (getD (c .b11) k 0) (getD (c .fractions) k nan) (getD fractions k nan) (getD curves k nan) → p ≡ pointAt selector (doubled k x0) (doubled k y0)
-unfolding pointAt
-point-there selector cells fractions curves x0 y0 c k {p} h r a e =
+point-there : (selector cells : List ℕ) (fractions curves : List Float) (octaves : ℕ) (x0 y0 : Float) (start : ℕ) (lower upper : List ℕ) (across : List Float) (k : ℕ) {p : Point} → k < 8 → k < octaves → RowAt y0 cells fractions curves → ColumnAt selector octaves x0 start lower upper across
+    → p ≡ pointWith selector (getD lower (start + k) 0) (getD upper (start + k) 0) (getD across (start + k) nan) (getD cells k 0) (getD fractions k nan) (getD curves k nan) → p ≡ pointAt selector (doubled k x0) (doubled k y0)
+unfolding pointAt corner
+point-there selector cells fractions curves octaves x0 y0 start lower upper across k {p} h l r a e =
     let b = ap (λ l. getD l k 0) (r .cells-are) ∙ element 0 8 _ k h in
     let f = ap (λ l. getD l k nan) (r .fractions-are) ∙ element nan 8 _ k h in
     let s = ap (λ l. getD l k nan) (r .curves-are) ∙ element nan 8 _ k h in
-    rw (e, a .b00-is, a .b10-is, a .b01-is, a .b11-is, a .fraction-is, b, f, s)
+    rw (e, a .lower-is k l, a .upper-is k l, a .across-is k l, b, f, s)
 
 module _ (fractal : Bool) (octaves : ℕ) (selector : List ℕ) (gx gy : List Float) (x0 y0 : Float) where
   -- at the octave k
@@ -136,14 +135,14 @@ module _ (fractal : Bool) (octaves : ℕ) (selector : List ℕ) (gx gy : List Fl
   unfolding doubled
   row-start = let e : octaves - 0 ≡ octaves = omega arith in rw e (leads-start fractal octaves selector gx gy x0 y0)
 
-  pub row-more : (cells : List ℕ) (fractions curves : List Float) (c : Column) (sum s : Channels) (inverse : Float) (k : ℕ) (p : Point) → octaves ≤ 8 → k < octaves
-      → p ≡ pointWith (getD (c .b00) k 0) (getD (c .b10) k 0) (getD (c .b01) k 0) (getD (c .b11) k 0) (getD (c .fractions) k nan) (getD fractions k nan) (getD curves k nan)
-      → ColumnAt selector cells x0 k c → inverse ≡ halved k → WithOctave fractal gx gy p inverse sum s → RowAt y0 cells fractions curves → LeadsAt sum k → LeadsAt s (k + 1)
+  pub row-more : (cells : List ℕ) (fractions curves : List Float) (start : ℕ) (lower upper : List ℕ) (across : List Float) (sum s : Channels) (inverse : Float) (k : ℕ) (p : Point) → octaves ≤ 8 → k < octaves
+      → p ≡ pointWith selector (getD lower (start + k) 0) (getD upper (start + k) 0) (getD across (start + k) nan) (getD cells k 0) (getD fractions k nan) (getD curves k nan)
+      → ColumnAt selector octaves x0 start lower upper across → inverse ≡ halved k → WithOctave fractal gx gy p inverse sum s → RowAt y0 cells fractions curves → LeadsAt sum k → LeadsAt s (k + 1)
   unfolding doubled
-  row-more cells fractions curves c sum s inverse k p few h e a i f r l =
+  row-more cells fractions curves start lower upper across sum s inverse k p few h e a i f r l =
       let fewer : octaves - (k + 1) ≡ octaves - k - 1 = omega arith in
       let below : k < 8 = omega arith in
-      let point = point-there selector cells fractions curves x0 y0 c k below r a e in
+      let point = point-there selector cells fractions curves octaves x0 y0 start lower upper across k below h r a e in
       let octave = f (doubled k d1) (subst (Inverse (doubled k d1)) (sym i) (inverse-at k below)) in
       rw (fewer, add-one) (leads-more fractal octaves selector gx gy x0 y0 sum s (doubled k x0) (doubled k y0) (doubled k d1) (octaves - k) p (omega arith) point octave l)
 

@@ -2,12 +2,12 @@
 use Prim.Native.Nat.{ℕ, zero, suc, _+_, _-_, _*_, _/_, _%_, _^_, _≤_, _<_}
 use mathlib.Core.Path.{_≡_, refl, sym, ap, _∙_, subst}
 use mathlib.Core.Bool.{Bool, true, false, not, cond}
-use native.Mathlib.Nat.{zero-lt-suc, le-trans, le-of-eq, lt-of-le-of-lt, mul-one, zero-mul, mul-assoc, mul-comm, mul-left-comm, mul-right-comm, mul-pos, mul-lt-mul-of-pos-right, lt-of-mul-lt-mul-right, le-of-mul-le-mul-right, mul-le-mul-right}
+use native.Mathlib.Nat.{zero-lt-suc, le-trans, le-of-eq, lt-of-le-of-lt, mul-one, zero-mul, mul-assoc, mul-pos, lt-of-mul-lt-mul-right, le-of-mul-le-mul-right, mul-le-mul-right}
 use native.Mathlib.Omega.{arith}
 use lib.IntN.{pos}
 use lib.Dec.{T, leb→le, lit≤, lit<}
-use lib.Pow.{pow-add, pow-pos, pow-mono, pow-lt, shl-lt}
-use lib.Ieee.{Float, nan, inf, fin, binary32, binary64, up, down, round, add, mul, lt, fits, isNan, ofBits, toBits, toUnsigned}
+use lib.Pow.{pow-add, pow-pos, pow-mono, shl-lt}
+use lib.Ieee.{Float, nan, inf, fin, binary32, binary64, up, down, round, mul, lt, fits, isNan, ofBits, toBits, toUnsigned}
 use lib.Ieee.Fits.{down-pos, add-fits}
 use lib.Ieee.Exact.{HasValue, round-exact}
 use lib.Ieee.Back.{round-whole}
@@ -19,7 +19,7 @@ use Rattle.floats.specs.Order.{bound}
 use Rattle.floats.specs.Narrow.{narrowTo}
 use Rattle.floats.specs.inner.Steps.{upTo}
 use Rattle.floats.proofs.CutAfterRounding.{Between, round-between, cut-after-rounding}
-use Rattle.floats.proofs.Fractions.{nought, add-at}
+use Rattle.floats.proofs.Fractions.{add-at}
 use Rattle.floats.proofs.NotAbove.{le-not-gt}
 use Rattle.floats.proofs.RoundedDown.{floor-cuts}
 use Rattle.floats.proofs.NearestWhole.{bounded-value, wholeFrom}

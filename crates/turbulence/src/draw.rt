@@ -1,17 +1,20 @@
 // The pixels, one by one.
 use crate::Turbulence;
 use crate::noise;
+use crate::noise::COLUMNS;
 use crate::tables;
 use sheet::pixel::Straight;
 ghost use mathlib.Core.Path.{_≡_};
-ghost use Prim.Native.Nat.{ℕ, _+_, _*_, _≤_};
+ghost use Prim.Native.Nat.{ℕ, _+_, _*_, _≤_, _<_};
 ghost use lib.Dec.{T};
 ghost use lib.ListN.{length};
 ghost use Rattle.floats.specs.inner.Steps.{upTo};
-ghost use Rattle.sheet.specs.Size.{Sized};
+ghost use Rattle.sheet.specs.Size.{Sized, sideLimit};
 ghost use Rattle.turbulence.specs.Turbulence.{pointOn, scaledSum, byteOf, drawn};
 ghost use Rattle.turbulence.specs.inner.Levels.{levelOf, Parts};
-ghost use Rattle.turbulence.specs.inner.Drawn.{bytesBy, PixelBy, RowOf, RowRoom, Begun};
+ghost use Rattle.turbulence.specs.inner.Rows.{RowOf};
+ghost use Rattle.turbulence.specs.inner.Columns.{ColumnOf, ColumnsOf};
+ghost use Rattle.turbulence.specs.inner.Drawn.{bytesBy, PixelBy, RowRoom, Begun};
 
 // The point of pixel n on an axis, in user space and times the frequency.
 fn point_on(offset: f64, scale: f64, frequency: f64, n: u32) -> f64
@@ -65,31 +68,34 @@ fn byte_of(fractal: bool, n: f64) -> u8
 }
 
 // The pixel in column x of a row.
-fn pixel(
+fn pixel<'a>(
     t: Turbulence,
     selector: &[u8; 514],
     gx: &[f64; 2056],
     gy: &[f64; 2056],
-    cells: &[u8; 8],
-    fractions: &[f64; 8],
-    curves: &[f64; 8],
+    lower: &[u8; COLUMNS],
+    upper: &[u8; COLUMNS],
+    across: &[f64; COLUMNS],
+    cells: &'a [u8; 8],
+    fractions: &'a [f64; 8],
+    curves: &'a [f64; 8],
     x: u32,
 ) -> Straight
-    requires { ⌜ t .«num_octaves» ≤ 8 ⌝ }
+    requires { ⌜ (t .«num_octaves» ≤ 8) × (x < sideLimit) × ColumnOf t (now selector) x (now lower) (now upper) (now across) ⌝ }
     ensures { λ p. ⌜ ((y : ℕ) → RowOf t y (now (cells .entry)) (now (fractions .entry)) (now (curves .entry)) → PixelBy t (now (selector .entry)) (now (gx .entry)) (now (gy .entry)) x y (p .0)) ⌝ }
 {
-    let across = point_on(t.offset_x, t.sx, t.base_frequency_x, x);
-    let octaves = t.num_octaves as usize;
     let sum = noise::turbulence(
-        t.fractal_noise,
-        octaves,
+        t,
         selector,
         gx,
         gy,
+        lower,
+        upper,
+        across,
         cells,
         fractions,
         curves,
-        across,
+        x,
     );
     Straight::of(
         byte_of(t.fractal_noise, sum.r),
@@ -105,29 +111,60 @@ fn draw_row(
     selector: &[u8; 514],
     gx: &[f64; 2056],
     gy: &[f64; 2056],
+    lower: &[u8; COLUMNS],
+    upper: &[u8; COLUMNS],
+    across: &[f64; COLUMNS],
     y: u32,
     width: u32,
     start: usize,
     dest: &mut [u8],
 )
-    requires { ⌜ (t .«num_octaves» ≤ 8) × RowRoom width y start (now dest) ⌝ }
-    requires { ⌜ Begun (bytesBy t (now selector) (now gx) (now gy) width) start (now dest) ⌝ }
+    requires { ⌜ (t .«num_octaves» ≤ 8) × (width ≤ sideLimit) × ColumnsOf t (now selector) width (now lower) (now upper) (now across) ⌝ }
+    requires { ⌜ RowRoom width y start (now dest) × Begun (bytesBy t (now selector) (now gx) (now gy) width) start (now dest) ⌝ }
     ensures begun { λ _. ⌜ Begun (bytesBy t (now (selector .entry)) (now (gx .entry)) (now (gy .entry)) width) (start + 4 * width) (now (dest .exit)) ⌝ }
     ensures same { λ _. ⌜ length (now (dest .exit)) ≡ length (now (dest .entry)) ⌝ }
 {
     let row = noise::row_at(point_on(t.offset_y, t.sy, t.base_frequency_y, y));
-    let cells = row.cells;
-    let fractions = row.fractions;
-    let curves = row.curves;
     let mut x: u32 = 0;
-    let mut at = start;
     while x < width {
-        sheet::pixel::put_straight(
-            dest,
-            at,
-            pixel(t, selector, gx, gy, &cells, &fractions, &curves, x),
+        let drawn = pixel(
+            t,
+            selector,
+            gx,
+            gy,
+            lower,
+            upper,
+            across,
+            &row.cells,
+            &row.fractions,
+            &row.curves,
+            x,
         );
-        at += 4;
+        sheet::pixel::put_straight(dest, start + 4 * x as usize, drawn);
+        x += 1;
+    }
+}
+
+// The columns of the sheet are stored one after the other, once for all its rows.
+fn fill_columns(
+    t: Turbulence,
+    selector: &[u8; 514],
+    width: u32,
+    lower: &mut [u8],
+    upper: &mut [u8],
+    across: &mut [f64],
+)
+    requires { ⌜ (t .«num_octaves» ≤ 8) × (width ≤ sideLimit) ⌝ }
+    requires { ⌜ (length (now lower) ≡ 16384) × (length (now upper) ≡ 16384) × (length (now across) ≡ 16384) ⌝ }
+    ensures { λ _. ⌜ ColumnsOf t (now (selector .entry)) width (now (lower .exit)) (now (upper .exit)) (now (across .exit)) ⌝ }
+{
+    let octaves = t.num_octaves as usize;
+    let mut start: usize = 0;
+    let mut x: u32 = 0;
+    while x < width {
+        let x0 = point_on(t.offset_x, t.sx, t.base_frequency_x, x);
+        noise::column_at(octaves, selector, x0, start, lower, upper, across);
+        start += octaves;
         x += 1;
     }
 }
@@ -144,10 +181,26 @@ pub fn draw(t: Turbulence, width: usize, height: usize, dest: &mut [u8])
     let gx = tables.x;
     let gy = tables.y;
     let wide = width as u32;
+    let mut lower = [0u8; COLUMNS];
+    let mut upper = [0u8; COLUMNS];
+    let mut across = [0.0f64; COLUMNS];
+    fill_columns(t, &selector, wide, &mut lower, &mut upper, &mut across);
     let mut y: u32 = 0;
     let mut at = 0;
     while at < dest.len() {
-        draw_row(t, &selector, &gx, &gy, y, wide, at, dest);
+        draw_row(
+            t,
+            &selector,
+            &gx,
+            &gy,
+            &lower,
+            &upper,
+            &across,
+            y,
+            wide,
+            at,
+            dest,
+        );
         y += 1;
         at += 4 * width;
     }

@@ -1,13 +1,22 @@
 // The noise at a point, for the four channels together.
+use crate::OCTAVE_LIMIT;
+use crate::Turbulence;
 use crate::lattice::cell;
 use crate::lattice::fraction;
 use crate::lattice::place_of;
+use sheet::SIDE_LIMIT;
 ghost use mathlib.Core.Path.{_≡_};
-ghost use Prim.Native.Nat.{ℕ, _≤_, _<_};
+ghost use Prim.Native.Nat.{_+_, _≤_, _<_};
+ghost use lib.ListN.{length, getD};
+ghost use lib.Ieee.{nan};
+ghost use Rattle.sheet.specs.Size.{sideLimit};
 ghost use Rattle.turbulence.specs.Noise as Noise;
-ghost use Rattle.turbulence.specs.inner.Rows.{RowAt};
-ghost use Rattle.turbulence.specs.inner.Columns.{pointWith, ColumnAt};
-ghost use Rattle.turbulence.specs.inner.Sums.{SumIn, CornersInside, WithOctave, noisesOf, sizesOf, addedTo};
+ghost use Rattle.turbulence.specs.inner.Rows.{RowAt, fractionIn};
+ghost use Rattle.turbulence.specs.inner.Columns.{Extended, lowerIn, upperIn, ColumnOf, pointWith};
+ghost use Rattle.turbulence.specs.inner.Sums.{none, SumIn, CornersInside, WithOctave, noisesOf, sizesOf, addedTo};
+
+// Places for each octave of the most columns.
+pub const COLUMNS: usize = SIDE_LIMIT * OCTAVE_LIMIT as usize;
 
 // What the four channels share at a point: the gradient numbers of the four corners round it, its place among them and
 // the curves of that.
@@ -42,23 +51,26 @@ fn wide(x: u8) -> usize
     x as usize
 }
 
-// The gradient number of the corner in column i and row j.
-fn corner(selector: &[u8; 514], i: usize, j: usize) -> u8
-    requires { ⌜ (i < 256) × (j < 256) ⌝ }
-    ensures { λ r. ⌜ r ≡ Noise.corner (now (selector .entry)) i j ⌝ }
+// The gradient number of the corner whose column has the selector's entry i, in row j.
+fn corner(selector: &[u8; 514], i: u8, j: usize) -> usize
+    requires { ⌜ j < 256 ⌝ }
+    ensures { λ r. ⌜ (r ≡ getD (now (selector .entry)) (i + j) 0) × (r < 256) ⌝ }
 {
-    selector[wide(selector[i]) + j]
+    wide(selector[wide(i) + j])
 }
 
-// A point by the gradient numbers of its corners, its fractions and the curve of the lower one.
-fn point_of(b00: u8, b10: u8, b01: u8, b11: u8, rx0: f64, ry0: f64, sy: f64) -> Point
-    ensures { λ r. ⌜ (r ≡ pointWith b00 b10 b01 b11 rx0 ry0 sy) × CornersInside r ⌝ }
+// The point between the columns whose selector entries are i and j, below the row `cell`, by its fractions and the curve of
+// the lower one.
+fn point_of(selector: &[u8; 514], i: u8, j: u8, rx0: f64, cell: u8, ry0: f64, sy: f64) -> Point
+    ensures { λ r. ⌜ (r ≡ pointWith (now (selector .entry)) i j rx0 cell ry0 sy) × CornersInside r ⌝ }
 {
+    let by0 = wide(cell);
+    let by1 = (by0 + 1) % 256;
     Point {
-        b00: wide(b00),
-        b10: wide(b10),
-        b01: wide(b01),
-        b11: wide(b11),
+        b00: corner(selector, i, by0),
+        b10: corner(selector, j, by0),
+        b01: corner(selector, i, by1),
+        b11: corner(selector, j, by1),
         rx0: rx0,
         rx1: rx0 - 1.0,
         ry0: ry0,
@@ -102,6 +114,18 @@ pub struct Channels {
     pub a: f64,
 }
 
+// No sum yet.
+fn no_sum() -> Channels
+    ensures { λ r. ⌜ r ≡ none ⌝ }
+{
+    Channels {
+        r: 0.0,
+        g: 0.0,
+        b: 0.0,
+        a: 0.0,
+    }
+}
+
 // What the pixels of a row share, at each octave: the cell, what lies beyond it, and the curve of that.
 pub struct Row {
     pub cells: [u8; 8],
@@ -133,83 +157,71 @@ pub fn row_at(y0: f64) -> Row
     }
 }
 
-// The gradient numbers round a pixel and its fractions across, at each octave: found for all octaves before the first sum,
-// for one octave's do not wait for another's.
-pub struct Column {
-    pub b00: [u8; 8],
-    pub b10: [u8; 8],
-    pub b01: [u8; 8],
-    pub b11: [u8; 8],
-    pub fractions: [f64; 8],
-}
-
-// The column at x0, of a row's cells.
-fn column_at(octaves: usize, selector: &[u8; 514], cells: &[u8; 8], x0: f64) -> Column
-    requires { ⌜ octaves ≤ 8 ⌝ }
-    ensures { λ r. ⌜ ((k : ℕ) → k < octaves → ColumnAt (now (selector .entry)) (now (cells .entry)) x0 k r) ⌝ }
+// The column at x0 is stored from `start` on: at each octave the selector's entries of its cell and of the next one, and
+// what lies beyond the cell.
+pub fn column_at(
+    octaves: usize,
+    selector: &[u8; 514],
+    x0: f64,
+    start: usize,
+    lower: &mut [u8],
+    upper: &mut [u8],
+    across: &mut [f64],
+)
+    requires { ⌜ (start + octaves ≤ length (now lower)) × (start + octaves ≤ length (now upper)) × (start + octaves ≤ length (now across)) ⌝ }
+    ensures { λ _. ⌜ Extended 0 (lowerIn (now (selector .entry)) x0) start octaves (now (lower .entry)) (now (lower .exit)) ⌝ }
+    ensures { λ _. ⌜ Extended 0 (upperIn (now (selector .entry)) x0) start octaves (now (upper .entry)) (now (upper .exit)) ⌝ }
+    ensures { λ _. ⌜ Extended nan (fractionIn x0) start octaves (now (across .entry)) (now (across .exit)) ⌝ }
 {
-    let mut column = Column {
-        b00: [0u8; 8],
-        b10: [0u8; 8],
-        b01: [0u8; 8],
-        b11: [0u8; 8],
-        fractions: [0.0f64; 8],
-    };
     let mut x = x0;
     let mut k: usize = 0;
     while k < octaves {
-        let across = place_of(x + 4096.0);
-        let bx0 = across.cell;
+        let place = place_of(x + 4096.0);
+        let bx0 = place.cell;
         let bx1 = (bx0 + 1) % 256;
-        let by0 = wide(cells[k]);
-        let by1 = (by0 + 1) % 256;
-        column.b00[k] = corner(selector, bx0, by0);
-        column.b10[k] = corner(selector, bx1, by0);
-        column.b01[k] = corner(selector, bx0, by1);
-        column.b11[k] = corner(selector, bx1, by1);
-        column.fractions[k] = across.fraction;
+        lower[start + k] = selector[bx0];
+        upper[start + k] = selector[bx1];
+        across[start + k] = place.fraction;
         x = x * 2.0;
         k += 1;
     }
-    column
 }
 
-// The four channels' sums over the octaves, at x0 in a row.
+// The four channels' sums over the octaves, in column x of a row.
 pub fn turbulence(
-    fractal: bool,
-    octaves: usize,
+    t: Turbulence,
     selector: &[u8; 514],
     gx: &[f64; 2056],
     gy: &[f64; 2056],
+    lower: &[u8; COLUMNS],
+    upper: &[u8; COLUMNS],
+    across: &[f64; COLUMNS],
     cells: &[u8; 8],
     fractions: &[f64; 8],
     curves: &[f64; 8],
-    x0: f64,
+    x: u32,
 ) -> Channels
-    requires { ⌜ octaves ≤ 8 ⌝ }
-    ensures { λ s. ⌜ SumIn fractal octaves (now (selector .entry)) (now (gx .entry)) (now (gy .entry)) (now (cells .entry)) (now (fractions .entry)) (now (curves .entry)) x0 s ⌝ }
+    requires { ⌜ (t .«num_octaves» ≤ 8) × (x < sideLimit) × ColumnOf t (now selector) x (now lower) (now upper) (now across) ⌝ }
+    ensures { λ s. ⌜ SumIn t (now (selector .entry)) (now (gx .entry)) (now (gy .entry)) (now (cells .entry)) (now (fractions .entry)) (now (curves .entry)) x s ⌝ }
 {
-    let column = column_at(octaves, selector, cells, x0);
-    let mut sum = Channels {
-        r: 0.0,
-        g: 0.0,
-        b: 0.0,
-        a: 0.0,
-    };
+    let octaves = t.num_octaves as usize;
+    let start = x as usize * octaves;
+    let mut sum = no_sum();
     // The octave's ratio is a power of two, and a product with its inverse is the quotient by it.
     let mut inverse: f64 = 1.0;
     let mut k: usize = 0;
     while k < octaves {
+        let at = start + k;
         let point = point_of(
-            column.b00[k],
-            column.b10[k],
-            column.b01[k],
-            column.b11[k],
-            column.fractions[k],
+            selector,
+            lower[at],
+            upper[at],
+            across[at],
+            cells[k],
             fractions[k],
             curves[k],
         );
-        sum = with_octave(fractal, gx, gy, point, inverse, sum);
+        sum = with_octave(t.fractal_noise, gx, gy, point, inverse, sum);
         inverse = inverse * 0.5;
         k += 1;
     }

@@ -25,11 +25,16 @@ both-within-requires-3 c κs = search needs
 
 returns-3 : tie.Need-returns-3
 unfolding allInRange
-returns-3 c = search (tests, allowed (c .before .before .before .before .before .both-within .ensures) (c .before .before .before .before .if1 .left), allowed (c .before .before .before .both-within2 .ensures) (c .before .before .if2 .left), denied (c .before .both-within3 .ensures) (c .if3 .taken))
+returns-3 c =
+    let the-both-within = c .before .before .before .before .before .both-within in
+    search (tests, allowed (the-both-within .ensures) (c .before .before .before .before .if1 .left), allowed (c .before .before .before .both-within2 .ensures) (c .before .before .if2 .left), denied (c .before .both-within3 .ensures) (c .if3 .taken))
 
 returns-4 : tie.Need-returns-4
 unfolding allInRange
-returns-4 c = rw (allowed (c .before .before .before .before .before .before .both-within .ensures) (c .before .before .before .before .before .if1 .left), allowed (c .before .before .before .before .both-within2 .ensures) (c .before .before .before .if2 .left), allowed (c .before .before .both-within3 .ensures) (c .before .if3 .left)) refl
+returns-4 c =
+    let the-both-within = c .before .before .before .before .before .before .both-within in
+    let the-if1 = c .before .before .before .before .before .if1 in
+    rw (allowed (the-both-within .ensures) (the-if1 .left), allowed (c .before .before .before .before .both-within2 .ensures) (c .before .before .before .if2 .left), allowed (c .before .before .both-within3 .ensures) (c .before .if3 .left)) refl
 
 pub all-in-range-spec : {M : Type 1} → statement M
 all-in-range-spec =

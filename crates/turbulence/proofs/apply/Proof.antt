@@ -32,7 +32,8 @@ returns c =
 draw-requires : tie.Need-draw-requires
 draw-requires c κs =
     let args = c .before .before .before .before .before .before .before .args in
-    let passed = both-pass (both-tests (c .before .before .before .and-then .ensures) (c .before .before .before .before .before .test1 .ensures) (c .before .before .before .before .test .ensures)) (c .before .enum-told .given .1) in
+    let the-test1 = c .before .before .before .before .before .test1 in
+    let passed = both-pass (both-tests (c .before .before .before .and-then .ensures) (the-test1 .ensures) (c .before .before .before .before .test .ensures)) (c .before .enum-told .given .1) in
     (sheets-sized (args .width) (args .height) _ (passed .0), (sheets-first (args .width) (args .height) _ _ (passed .0) .0, octaves-few (args .t) (passed .1)))
 
 same-length : tie.Need-same-length
@@ -41,7 +42,10 @@ same-length c = search needs
 returns-2 : tie.Need-returns-2
 unfolding answer
 returns-2 c =
-    let e = both-tests (c .before .before .before .before .before .before .and-then .ensures) (c .before .before .before .before .before .before .before .before .test1 .ensures) (c .before .before .before .before .before .before .before .test .ensures) in
+    let the-and-then = c .before .before .before .before .before .before .and-then in
+    let the-test1 = c .before .before .before .before .before .before .before .before .test1 in
+    let the-test = c .before .before .before .before .before .before .before .test in
+    let e = both-tests (the-and-then .ensures) (the-test1 .ensures) (the-test .ensures) in
     filtered-done e (c .before .before .before .before .enum-told .given .1) (c .before .before .draw .ensures)
 
 pub apply-spec : {M : Type 1} → statement M

@@ -1,24 +1,54 @@
--- Words of the private functions' contracts: what a pixel finds before its sums.
-use Prim.Native.Nat.{ℕ}
+-- Words of the private functions' contracts: what the pixels of a column share.
+use Prim.Native.Nat.{ℕ, _+_, _*_, _<_}
 use mathlib.Core.Path.{_≡_}
 use mathlib.Core.List.{List}
-use lib.ListN.{getD}
+use lib.ListN.{length, getD}
 use lib.Ieee.{Float, nan}
 use Rattle.floats.specs.Operators.{_⊟_}
+use Rattle.turbulence.specs.declared.Turbulence.{Turbulence}
 use Rattle.turbulence.specs.declared.noise.Point.{Point}
-use Rattle.turbulence.specs.declared.noise.Column.{Column}
 use Rattle.turbulence.specs.Constants.{d1}
-use Rattle.turbulence.specs.Noise.{nextCell, sCurve, corner}
-use Rattle.turbulence.specs.inner.Rows.{cellIn, fractionIn}
+use Rattle.turbulence.specs.Noise.{nextCell, sCurve}
+use Rattle.turbulence.specs.inner.Rows.{cellIn, fractionIn, columnPoint}
 
--- the point of these gradient numbers, fractions and lower curve
-abbrev pub pointWith : (b00 b10 b01 b11 : ℕ) → (rx ry sy : Float) → Point
-pointWith b00 b10 b01 b11 rx ry sy = record { b00 = b00; b10 = b10; b01 = b01; b11 = b11; rx0 = rx; rx1 = rx ⊟ d1; ry0 = ry; ry1 = ry ⊟ d1; sx = sCurve rx; sy = sy }
+-- the selector's entry of the cell of x at the octave k, and that of the next cell
+abbrev pub lowerIn : List ℕ → Float → ℕ → ℕ
+lowerIn selector x k = getD selector (cellIn x k) 0
 
--- at the octave k the column is that of x, among a row's cells
-pub record ColumnAt (selector cells : List ℕ) (x : Float) (k : ℕ) (c : Column) : Type 0 where
-  pub b00-is : getD (c .b00) k 0 ≡ corner selector (cellIn x k) (getD cells k 0)
-  pub b10-is : getD (c .b10) k 0 ≡ corner selector (nextCell (cellIn x k)) (getD cells k 0)
-  pub b01-is : getD (c .b01) k 0 ≡ corner selector (cellIn x k) (nextCell (getD cells k 0))
-  pub b11-is : getD (c .b11) k 0 ≡ corner selector (nextCell (cellIn x k)) (nextCell (getD cells k 0))
-  pub fraction-is : getD (c .fractions) k nan ≡ fractionIn x k
+abbrev pub upperIn : List ℕ → Float → ℕ → ℕ
+upperIn selector x k = getD selector (nextCell (cellIn x k)) 0
+
+-- in l′ the n elements from `start` on are f 0, f 1, .., and those before it are as in l; z is what `getD` gives past the end
+pub record Extended {A : Type 0} (z : A) (f : ℕ → A) (start n : ℕ) (l l′ : List A) : Type 0 where
+  pub same : length l′ ≡ length l
+  pub stored : (k : ℕ) → k < n → getD l′ (start + k) z ≡ f k
+  pub kept : (i : ℕ) → i < start → getD l′ i z ≡ getD l i z
+
+-- the three lists have the column at x from `start` on
+pub record ColumnAt (selector : List ℕ) (octaves : ℕ) (x : Float) (start : ℕ) (lower upper : List ℕ) (across : List Float) : Type 0 where
+  pub lower-is : (k : ℕ) → k < octaves → getD lower (start + k) 0 ≡ lowerIn selector x k
+  pub upper-is : (k : ℕ) → k < octaves → getD upper (start + k) 0 ≡ upperIn selector x k
+  pub across-is : (k : ℕ) → k < octaves → getD across (start + k) nan ≡ fractionIn x k
+
+-- column x of the sheet
+abbrev pub ColumnOf : Turbulence → List ℕ → ℕ → List ℕ → List ℕ → List Float → Type 0
+ColumnOf t selector x lower upper across = ColumnAt selector (t .«num_octaves») (columnPoint t x) (x * t .«num_octaves») lower upper across
+
+-- each column below w
+abbrev pub ColumnsOf : Turbulence → List ℕ → ℕ → List ℕ → List ℕ → List Float → Type 0
+ColumnsOf t selector w lower upper across = (x : ℕ) → x < w → ColumnOf t selector x lower upper across
+
+-- the point between two columns by their selector entries i and j, below the row b, by its fractions and lower curve
+abbrev pub pointWith : List ℕ → (i j : ℕ) → (rx : Float) → (b : ℕ) → (ry sy : Float) → Point
+pointWith selector i j rx b ry sy = record {
+  b00 = getD selector (i + b) 0;
+  b10 = getD selector (j + b) 0;
+  b01 = getD selector (i + nextCell b) 0;
+  b11 = getD selector (j + nextCell b) 0;
+  rx0 = rx;
+  rx1 = rx ⊟ d1;
+  ry0 = ry;
+  ry1 = ry ⊟ d1;
+  sx = sCurve rx;
+  sy = sy;
+}

@@ -6,8 +6,7 @@ use lib.ListN.{length, getD}
 use lib.Ieee.{Float}
 use Rattle.sheet.specs.Pixel.{Channels, column, row}
 use Rattle.turbulence.specs.declared.Turbulence.{Turbulence}
-use Rattle.turbulence.specs.Turbulence.{pointOn, valueBy, byteOf}
-use Rattle.turbulence.specs.inner.Rows.{RowAt}
+use Rattle.turbulence.specs.Turbulence.{valueBy, byteOf}
 
 -- channel c of the pixel in column x and row y, by a selector and gradients
 abbrev pub byteBy : Turbulence → List ℕ → List Float → List Float → (c x y : ℕ) → ℕ
@@ -21,10 +20,6 @@ bytesBy t selector gx gy w k = byteBy t selector gx gy (k % 4) (column w k) (row
 abbrev pub PixelBy : Turbulence → List ℕ → List Float → List Float → (x y : ℕ) → ℕ → Type 0
 PixelBy t selector gx gy x y p =
     Channels p (byteBy t selector gx gy 0 x y) (byteBy t selector gx gy 1 x y) (byteBy t selector gx gy 2 x y) (byteBy t selector gx gy 3 x y)
-
--- the three lists are those of row y
-abbrev pub RowOf : Turbulence → ℕ → List ℕ → List Float → List Float → Type 0
-RowOf t y cells fractions curves = RowAt (pointOn (t .«offset_y») (t .sy) (t .«base_frequency_y») y) cells fractions curves
 
 -- row y begins at byte i of d, a sheet of whole pixels and of w columns, and lies within it
 pub record RowRoom (w y i : ℕ) (d : List ℕ) : Type 0 where

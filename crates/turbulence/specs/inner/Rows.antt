@@ -5,8 +5,10 @@ use mathlib.Core.List.{List}
 use lib.Ieee.{Float}
 use Rattle.floats.specs.Operators.{_⊞_, _⊠_}
 use Rattle.sheet.specs.Tabulate.{tabulate}
+use Rattle.turbulence.specs.declared.Turbulence.{Turbulence}
 use Rattle.turbulence.specs.Constants.{d2, d4096}
 use Rattle.turbulence.specs.Noise.{cell, fraction, sCurve}
+use Rattle.turbulence.specs.Turbulence.{pointOn}
 
 -- x at the octave k from here
 unfoldable pub doubled : ℕ → Float → Float
@@ -24,3 +26,14 @@ pub record RowAt (y : Float) (cells : List ℕ) (fractions curves : List Float) 
   pub cells-are : cells ≡ tabulate 8 (cellIn y)
   pub fractions-are : fractions ≡ tabulate 8 (fractionIn y)
   pub curves-are : curves ≡ tabulate 8 (λ k. sCurve (fractionIn y k))
+
+-- the points of column x and of row y
+abbrev pub columnPoint : Turbulence → ℕ → Float
+columnPoint t x = pointOn (t .«offset_x») (t .sx) (t .«base_frequency_x») x
+
+abbrev pub rowPoint : Turbulence → ℕ → Float
+rowPoint t y = pointOn (t .«offset_y») (t .sy) (t .«base_frequency_y») y
+
+-- the three lists are those of row y
+abbrev pub RowOf : Turbulence → ℕ → List ℕ → List Float → List Float → Type 0
+RowOf t y cells fractions curves = RowAt (rowPoint t y) cells fractions curves

@@ -6,11 +6,12 @@ use mathlib.Core.List.{List}
 use lib.Ieee.{Float}
 use Rattle.floats.specs.Operators.{_⊞_, _⊠_, _⧄_}
 use Rattle.floats.specs.Absolute.{absolute}
+use Rattle.turbulence.specs.declared.Turbulence.{Turbulence}
 use Rattle.turbulence.specs.declared.noise.Point.{Point}
 use Rattle.turbulence.specs.declared.noise.Channels.{Channels}
 use Rattle.turbulence.specs.Constants.{d0, d1}
 use Rattle.turbulence.specs.Noise.{noise, octave, summed}
-use Rattle.turbulence.specs.inner.Rows.{RowAt}
+use Rattle.turbulence.specs.inner.Rows.{columnPoint, rowPoint, RowOf}
 
 -- every corner has one of the first 256 gradients
 abbrev pub CornersInside : Point → Type 0
@@ -56,6 +57,7 @@ pub record Sum (fractal : Bool) (n : ℕ) (selector : List ℕ) (gx gy : List Fl
 abbrev pub none : Channels
 none = record { r = d0; g = d0; b = d0; a = d0 }
 
--- s are the four channels' sums at x in the row of these three lists, whichever row that is
-abbrev pub SumIn : Bool → ℕ → List ℕ → List Float → List Float → List ℕ → List Float → List Float → Float → Channels → Type 0
-SumIn fractal n selector gx gy cells fractions curves x s = (y : Float) → RowAt y cells fractions curves → Sum fractal n selector gx gy x y d1 none s
+-- s are the four channels' sums in column x of the row of these three lists, whichever row that is
+abbrev pub SumIn : Turbulence → List ℕ → List Float → List Float → List ℕ → List Float → List Float → ℕ → Channels → Type 0
+SumIn t selector gx gy cells fractions curves x s =
+    (y : ℕ) → RowOf t y cells fractions curves → Sum (t .«fractal_noise») (t .«num_octaves») selector gx gy (columnPoint t x) (rowPoint t y) d1 none s

@@ -26,7 +26,11 @@ lerp-requires-3 : tie.Need-lerp-requires-3
 lerp-requires-3 c κs = search needs
 
 returns : tie.Need-returns
-returns c = noise-is _ _ (c .before .before .before .before .before .before .before .args .c) (c .before .before .before .before .before .before .before .args .p) (c .before .before .before .before .before .before .along .ensures) (c .before .before .before .before .before .along2 .ensures) (c .before .before .before .before .lerp .ensures) (c .before .before .before .along3 .ensures) (c .before .before .along4 .ensures) (c .before .lerp2 .ensures) (c .lerp3 .ensures)
+returns c =
+    let the-args = c .before .before .before .before .before .before .before .args in
+    let the-along = c .before .before .before .before .before .before .along in
+    let the-along2 = c .before .before .before .before .before .along2 in
+    noise-is _ _ (the-args .c) (the-args .p) (the-along .ensures) (the-along2 .ensures) (c .before .before .before .before .lerp .ensures) (c .before .before .before .along3 .ensures) (c .before .before .along4 .ensures) (c .before .lerp2 .ensures) (c .lerp3 .ensures)
 
 pub noise-spec : {M : Type 1} → statement M
 noise-spec =

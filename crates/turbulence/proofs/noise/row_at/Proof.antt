@@ -2,7 +2,7 @@
 use borrow.Author.Needs.{needs}
 use Prim.Native.Nat.{_-_, _≤_}
 use mathlib.Core.Path.{_≡_, refl, ap, _∙_}
-use lib.Ieee.{binary64, nan, add}
+use lib.Ieee.{nan}
 use Rattle.floats.specs.Operators.{_⊞_}
 use Rattle.turbulence.specs.Constants.{d4096}
 use Rattle.turbulence.specs.Noise.{cell, fraction, sCurve}

@@ -1,25 +1,45 @@
 -- Each turn adds an octave, and what is left leads to the result.
 use borrow.Author.Needs.{needs}
-use Prim.Native.Nat.{_-_, _≤_}
+use Prim.Native.Nat.{ℕ, _+_, _*_, _-_, _≤_}
 use mathlib.Core.Path.{_≡_, refl}
-use lib.Ieee.{Float, ofBits}
-use Rattle.turbulence.specs.inner.Rows.{RowAt}
+use native.Mathlib.Omega.{arith}
+use lib.Ieee.{ofBits}
+use Rattle.sheet.specs.Size.{sideLimit}
+use Rattle.turbulence.specs.inner.Rows.{columnPoint, rowPoint, RowOf}
+use Rattle.turbulence.proofs.Columns.{columns-fit}
 use Rattle.turbulence.proofs.Octaves.{halved, halved-once, LeadsAt, row-start, row-more, row-done}
 use Rattle.turbulence.proofs.noise.turbulence.Statement.{statement}
 use Rattle.turbulence.proofs.noise.turbulence.Tie as tie
 
 abbrev Inv-loop : tie.InvT-loop
-Inv-loop fractal octaves selector gx gy cells fractions curves x0 column sum₀ inverse₀ k₀ sum inverse k = ((y0 : Float) → RowAt y0 cells fractions curves → LeadsAt fractal octaves selector gx gy x0 y0 sum k) × (inverse ≡ halved k) × (k ≤ octaves)
+Inv-loop t selector gx gy lower upper across cells fractions curves x octaves start sum₀ inverse₀ k₀ sum inverse k =
+    ((y : ℕ) → RowOf t y cells fractions curves → LeadsAt (t .«fractal_noise») (t .«num_octaves») selector gx gy (columnPoint t x) (rowPoint t y) sum k)
+    × (inverse ≡ halved k)
+    × (k ≤ octaves)
+    × (x * t .«num_octaves» + t .«num_octaves» ≤ 16384)
 
 abbrev μ-loop : tie.MeasureT-loop
-μ-loop fractal octaves selector gx gy cells fractions curves x0 column sum₀ inverse₀ k₀ sum inverse k = octaves - k
+μ-loop t selector gx gy lower upper across cells fractions curves x octaves start sum₀ inverse₀ k₀ sum inverse k = octaves - k
 
-column-at-requires : tie.Need-column-at-requires Inv-loop μ-loop
-column-at-requires c κs = search needs
+cast-octaves : tie.Need-cast-octaves Inv-loop μ-loop
+cast-octaves c = search needs
+
+-- the column lies within the three lists
+column-fits : (c : tie.Start Inv-loop μ-loop) → c .args .x * c .args .t .«num_octaves» + c .args .t .«num_octaves» ≤ 16384
+column-fits c = columns-fit (c .args .x) sideLimit (c .args .t .«num_octaves») (c .pre .1) (omega arith) (c .pre .0)
+
+mul-start : tie.Need-mul-start Inv-loop μ-loop
+mul-start c = let fit = column-fits (c .before) in search needs
+
+no-sum-requires : tie.Need-no-sum-requires Inv-loop μ-loop
+no-sum-requires c κs = search needs
 
 loop-holds : tie.Need-loop-holds Inv-loop μ-loop
 unfolding halved
-loop-holds c = ((λ y0 r. row-start _ _ _ _ _ _ y0), refl, search needs)
+loop-holds c = ((λ y r. rw (c .no-sum .ensures) (row-start _ _ _ _ _ _ _)), refl, search needs, column-fits (c .before .before))
+
+add-at : tie.Need-add-at Inv-loop μ-loop
+add-at c = search needs
 
 element-copy-out-point-of : tie.Need-element-copy-out-point-of Inv-loop μ-loop
 element-copy-out-point-of c = search needs
@@ -27,29 +47,26 @@ element-copy-out-point-of c = search needs
 element-copy-out-point-of-2 : tie.Need-element-copy-out-point-of-2 Inv-loop μ-loop
 element-copy-out-point-of-2 c = search needs
 
+mul-point-of : tie.Need-mul-point-of Inv-loop μ-loop
+mul-point-of c = search needs
+
 element-copy-out-point-of-3 : tie.Need-element-copy-out-point-of-3 Inv-loop μ-loop
 element-copy-out-point-of-3 c = search needs
 
 element-copy-out-point-of-4 : tie.Need-element-copy-out-point-of-4 Inv-loop μ-loop
 element-copy-out-point-of-4 c = search needs
 
-mul-point-of : tie.Need-mul-point-of Inv-loop μ-loop
-mul-point-of c = search needs
+mul-point-of-2 : tie.Need-mul-point-of-2 Inv-loop μ-loop
+mul-point-of-2 c = search needs
 
 element-copy-out-point-of-5 : tie.Need-element-copy-out-point-of-5 Inv-loop μ-loop
 element-copy-out-point-of-5 c = search needs
 
-mul-point-of-2 : tie.Need-mul-point-of-2 Inv-loop μ-loop
-mul-point-of-2 c = search needs
-
-element-copy-out-point-of-6 : tie.Need-element-copy-out-point-of-6 Inv-loop μ-loop
-element-copy-out-point-of-6 c = search needs
-
 mul-point-of-3 : tie.Need-mul-point-of-3 Inv-loop μ-loop
 mul-point-of-3 c = search needs
 
-element-copy-out-point-of-7 : tie.Need-element-copy-out-point-of-7 Inv-loop μ-loop
-element-copy-out-point-of-7 c = search needs
+element-copy-out-point-of-6 : tie.Need-element-copy-out-point-of-6 Inv-loop μ-loop
+element-copy-out-point-of-6 c = search needs
 
 point-of-requires : tie.Need-point-of-requires Inv-loop μ-loop
 point-of-requires c κs = search needs
@@ -66,13 +83,17 @@ loop-less c = search needs
 loop-again : tie.Need-loop-again Inv-loop μ-loop
 unfolding ofBits
 loop-again c =
-    let inv = c .before .before .before .before .before .before .before .before .before .before .loop .inv in
-    let below = c .before .before .before .before .before .before .before .before .before .loop-test .taken in
-    let column = c .before .before .before .before .before .before .before .before .before .before .before .column-at in
-    ((λ y0 r. row-more _ _ _ _ _ _ y0 _ _ _ (column .result) _ _ _ (c .before .before .before .before .before .before .before .before .before .before .loop .k) (c .before .point-of .result) (c .before .before .before .before .before .before .before .before .before .before .before .before .pre) below (c .before .point-of .ensures .0) (column .ensures (c .before .before .before .before .before .before .before .before .before .before .loop .k) below) (inv .1) (c .with-octave .ensures) r (inv .0 y0 r)), halved-once _ _ (inv .1), search needs)
+    let the-start = c .before .before .before .before .before .before .before .before .before .before .before .before in
+    let args = the-start .args in
+    let the-loop = c .before .before .before .before .before .before .before .before .before .loop in
+    let the-test = c .before .before .before .before .before .before .before .before .loop-test in
+    let the-point = c .before .point-of in
+    let inv = the-loop .inv in
+    let below = the-test .taken in
+    ((λ y r. row-more _ _ _ _ _ _ _ _ _ _ (args .x * args .t .«num_octaves») _ _ _ _ _ _ (the-loop .k) (the-point .result) (the-start .pre .0) below (the-point .ensures .0) (the-start .pre .2) (inv .1) (c .with-octave .ensures) r (inv .0 y r)), halved-once _ _ (inv .1), search needs, inv .3)
 
 returns : tie.Need-returns Inv-loop μ-loop
-returns c = λ y0 r. row-done _ _ _ _ _ _ y0 _ (c .before .loop .k) (c .loop-test .left) (c .before .loop .inv .0 y0 r)
+returns c = λ y r. row-done _ _ _ _ _ _ _ _ (c .before .loop .k) (c .loop-test .left) (c .before .loop .inv .0 y r)
 
 pub turbulence-spec : {M : Type 1} → statement M
 turbulence-spec =
@@ -80,18 +101,20 @@ turbulence-spec =
     (tie.spec
     Inv-loop
     μ-loop
-    column-at-requires
+    cast-octaves
+    mul-start
+    no-sum-requires
     loop-holds
+    add-at
     element-copy-out-point-of
     element-copy-out-point-of-2
+    mul-point-of
     element-copy-out-point-of-3
     element-copy-out-point-of-4
-    mul-point-of
-    element-copy-out-point-of-5
     mul-point-of-2
-    element-copy-out-point-of-6
+    element-copy-out-point-of-5
     mul-point-of-3
-    element-copy-out-point-of-7
+    element-copy-out-point-of-6
     point-of-requires
     with-octave-requires
     add-k

@@ -29,7 +29,10 @@ returns : tie.Need-returns
 unfolding selectorOf gradientsX gradientsY
 returns c =
     let told = c .before .before .before .before .before .before .before .draw-pairs .ensures in
-    let started = c .before .before .before .before .before .before .before .before .start .ensures .0 ∙ ap startOf (toZ-ofZ w32 (c .before .before .before .before .before .before .before .before .before .args .seed) (c .before .before .before .before .before .before .before .before .before .fits .seed)) in (
+    let the-start = c .before .before .before .before .before .before .before .before .start in
+    let the-args = c .before .before .before .before .before .before .before .before .before .args in
+    let the-fits = c .before .before .before .before .before .before .before .before .before .fits in
+    let started = the-start .ensures .0 ∙ ap startOf (toZ-ofZ w32 (the-args .seed) (the-fits .seed)) in (
       c .before .before .before .before .lattice-selector .ensures ∙ ap selector (told .2 ∙ ap (afterPairs 1024) started),
       c .before .before .side-by-side .ensures ∙ ap sideBySide (told .0 ∙ ap drawnX started),
       c .side-by-side2 .ensures ∙ ap sideBySide (told .1 ∙ ap drawnY started),
