@@ -3,12 +3,15 @@ use Prim.Native.Nat.{ℕ}
 use mathlib.Core.Path.{_≡_, refl, sym, _∙_}
 use mathlib.Core.List.{List, [], _∷_}
 use borrow.Author.Tests.{eqb-true}
+use types.Run.{OneOf}
+use denote.Enum.Declared.{tagOf}
 use Rattle.sheet.specs.declared.Answer.{Answer}
 use Rattle.sheet.specs.Answer.{IsRefusal}
 use Rattle.sheet.specs.declared.Answer.the-variants.{Done}
 use Rattle.sheet.specs.Size.{lengthsAnswer}
 use Rattle.sheet.specs.Contract.{Lent, was, became, Holds, Filtered}
-use Rattle.sheet.proofs.Answers.{cond-done}
+use Rattle.sheet.proofs.Answer.{the-type}
+use Rattle.sheet.proofs.Answers.{refusing, cond-done}
 use Rattle.sheet.proofs.Contracts.{holds-refused, holds-done, holds-settled}
 use Rattle.nuprikhen.specs.declared.nup_answer.{«nup_answer»}
 use Rattle.nuprikhen.specs.Called.{Told, Called}
@@ -19,6 +22,9 @@ told-as {answer} {r} {c} e t = rw e at t
 module _ {A : Type 0} {answer r : Answer} {c : «nup_answer»} {new : List A} {lent : Lent A} (e : r ≡ answer) (t : Told r c) where
   pub called-refused : IsRefusal r → became lent ≡ was lent → Called answer c new lent
   called-refused h k = record { told = told-as e t; held = holds-refused e h k }
+
+  pub called-tested : OneOf (1 ∷ []) (tagOf the-type r) → became lent ≡ was lent → Called answer c new lent
+  called-tested o k = called-refused (refusing r o) k
 
   pub called-done : r ≡ Done → became lent ≡ new → Called answer c new lent
   called-done d k = record { told = told-as e t; held = holds-done (sym e ∙ d) k }

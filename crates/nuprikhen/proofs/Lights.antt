@@ -4,8 +4,7 @@ use mathlib.Core.Path.{_≡_, refl}
 use mathlib.Core.Bool.{false, cond}
 use lib.Ieee.{Float, ofBits}
 use lib.Ieee.Scale.{finite}
-use Rattle.floats.specs.Constants.{c0, c1}
-use Rattle.floats.specs.Order.{within}
+use Rattle.floats.specs.Constants.{c0}
 use Rattle.floats.specs.Unit.{unitTriple}
 use Rattle.lighting.specs.declared.light.LightSource.the-variants.{Distant}
 use Rattle.lighting.specs.Lighting.{tested, finiteNumbers, numbersInRange, diffuseAnswer, specularAnswer}

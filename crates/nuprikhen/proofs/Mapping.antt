@@ -1,12 +1,14 @@
--- A C function that stores f of each element of a slice in order: a record for its loop's invariant, with the laws of its start, of one store and of the call's end.
+-- A C function that stores f of each element of a slice in order: a record for its loop's invariant, with the laws of its start, of one store and of the call's end; and the roots of a copy.
 use Prim.Native.Nat.{ℕ, _+_, _≤_, _<_}
-use mathlib.Core.Path.{_≡_, refl, sym, _∙_}
+use mathlib.Core.Path.{_≡_, refl, sym, ap, _∙_}
 use mathlib.Core.List.{List, [], _∷_, map}
 use native.Mathlib.Nat.{not-suc-le-zero}
 use native.Mathlib.Omega.{arith}
 use borrow.Author.Count.{below-more}
 use lib.ListN.{length, getD, set, length-set, length-map, List·getD-map}
 use lib.Seq.{getD-set-same, getD-set-other, ext-getD}
+use lib.Ieee.{Float, binary32}
+use Rattle.floats.specs.Root.{sqrtOf, firstRoots}
 use Rattle.sheet.specs.declared.Answer.{Answer}
 use Rattle.sheet.specs.declared.Answer.the-variants.{Done}
 use Rattle.sheet.specs.Size.{lengthsAnswer}
@@ -40,3 +42,12 @@ module _ {A B : Type 0} {f : A → B} {a : A} {xs : List A} where
 
   pub map-called : {answer r : Answer} {c : «nup_answer»} {lent : Lent B} {out₀ : List B} {i : ℕ} → r ≡ answer → Told r c → r ≡ Done → Mapping f a xs out₀ (became lent) i → length (became lent) ≤ i → Called answer c (map f xs) lent
   map-called e t d m h = called-done e t d (map-done m h)
+
+-- ---- the roots of a copy
+pub copied : {A : Type 0} {a : A} {xs out₀ out : List A} {i : ℕ} → Mapping (λ x. x) a xs out₀ out i → length out ≤ i → out ≡ xs
+copied {A} {a} {xs} {out₀} {out} r h = ext-getD a out xs (r .same ∙ sym (r .pair)) (λ k l. r .stored k (omega arith))
+
+pub all-roots : (xs : List Float) → firstRoots (length xs) xs ≡ map (sqrtOf binary32) xs
+unfolding firstRoots
+all-roots [] = refl
+all-roots (x ∷ xs) = ap (λ (l : List Float). sqrtOf binary32 x ∷ l) (all-roots xs)

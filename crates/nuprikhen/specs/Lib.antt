@@ -6,3 +6,4 @@ pub mod Convolving
 pub mod Channels
 pub mod Noise
 pub mod Lights
+pub mod inner

@@ -7,6 +7,7 @@ use sheet::Answer;
 use sheet::Refusal;
 ghost use mathlib.Core.Path.{_≡_};
 ghost use Rattle.sheet.specs.Contract.{was, Filtered};
+ghost use Rattle.component_transfer.specs.ComponentTransfer.{functionsAnswer};
 ghost use Rattle.nuprikhen.specs.Called.{Called};
 ghost use Rattle.nuprikhen.specs.Numbers.{linearOf, functionOf, testedBy, transferAnswer, transferBytes};
 
@@ -52,6 +53,27 @@ fn test_numbered(kind: u8, values: &[f32]) -> Answer
     component_transfer::test_function(linear_of(values), values)
 }
 
+// Those tests of all four channels.
+fn test_all(
+    red: u8,
+    r: &[f32],
+    green: u8,
+    g: &[f32],
+    blue: u8,
+    b: &[f32],
+    alpha: u8,
+    a: &[f32],
+) -> Answer
+    ensures { λ n. ⌜ n ≡ functionsAnswer (testedBy red r) (testedBy green g) (testedBy blue b) (testedBy alpha a) ⌝ }
+{
+    component_transfer::of_all(
+        test_numbered(red, r),
+        test_numbered(green, g),
+        test_numbered(blue, b),
+        test_numbered(alpha, a),
+    )
+}
+
 // Component transfer by the functions' numbers.
 fn apply_numbered(
     red: u8,
@@ -72,12 +94,7 @@ fn apply_numbered(
     let Answer::Done = sheets else {
         return sheets;
     };
-    let tested = component_transfer::of_all(
-        test_numbered(red, r),
-        test_numbered(green, g),
-        test_numbered(blue, b),
-        test_numbered(alpha, a),
-    );
+    let tested = test_all(red, r, green, g, blue, b, alpha, a);
     let Answer::Done = tested else {
         return tested;
     };

@@ -5,9 +5,10 @@ use displacement_map::ColorChannel;
 use sheet::Answer;
 use sheet::Refusal;
 ghost use mathlib.Core.Path.{_≡_};
-ghost use Rattle.sheet.specs.Contract.{was, Filtered};
-ghost use Rattle.displacement_map.specs.DisplacementMap.{displaced};
-ghost use Rattle.nuprikhen.specs.Channels.{channelOf, namedChannels, displacementAnswer, Displaced};
+ghost use Rattle.sheet.specs.Answer.{refusal, andThen};
+ghost use Rattle.displacement_map.specs.DisplacementMap.{scalesAnswer};
+ghost use Rattle.nuprikhen.specs.Channels.{channelOf, Displaced};
+ghost use Rattle.nuprikhen.specs.inner.Numbered.{DisplacedBy};
 
 fn channel_of(number: u8) -> ColorChannel
     ensures { λ r. ⌜ r ≡ channelOf number ⌝ }
@@ -23,24 +24,18 @@ fn channel_of(number: u8) -> ColorChannel
     }
 }
 
-// Test 5 of the two numbers.
-fn test_named(x: u8, y: u8) -> Answer
-    ensures { λ r. ⌜ r ≡ namedChannels x y ⌝ }
+// The answer where a number names no channel: refused after the other tests.
+fn unnamed(sheets: Answer, sx: f32, sy: f32, scale: f32) -> Answer
+    ensures { λ r. ⌜ r ≡ andThen (andThen sheets (scalesAnswer sx sy scale)) (refusal 5) ⌝ }
 {
-    if 3 < x {
-        return Answer::Refused(Refusal::Range, 0);
-    }
-    if 3 < y {
-        return Answer::Refused(Refusal::Range, 0);
-    }
-    Answer::Done
+    let tested = sheet::and_then(sheets, displacement_map::test(sx, sy, scale));
+    sheet::and_then(tested, Answer::Refused(Refusal::Range, 0))
 }
 
-// The filter, where the two numbers were tested to be `named`; they are refused after the other tests.
-fn apply_named(
-    named: Answer,
-    xs: ColorChannel,
-    ys: ColorChannel,
+// A displacement by the channels' numbers. Each is tested by itself, so that the compiler knows it to be below 4.
+fn apply_numbered(
+    x: u8,
+    y: u8,
     sx: f32,
     sy: f32,
     scale: f32,
@@ -50,13 +45,18 @@ fn apply_named(
     map: &[u8],
     dest: &mut [u8],
 ) -> Answer
-    ensures { λ r. ⌜ Filtered (displacementAnswer named sx sy scale width height (was src) (was map) (was dest)) r (displaced xs ys sx sy scale width height (was src) (was map)) dest ⌝ }
+    ensures { λ r. ⌜ DisplacedBy x y sx sy scale width height src map r dest ⌝ }
 {
-    let Answer::Done = named else {
+    if 3 < x {
         let sheets = sheet::test3(width, height, src.len(), map.len(), dest.len());
-        let tested = sheet::and_then(sheets, displacement_map::test(sx, sy, scale));
-        return sheet::and_then(tested, named);
-    };
+        return unnamed(sheets, sx, sy, scale);
+    }
+    if 3 < y {
+        let sheets = sheet::test3(width, height, src.len(), map.len(), dest.len());
+        return unnamed(sheets, sx, sy, scale);
+    }
+    let xs = channel_of(x);
+    let ys = channel_of(y);
     displacement_map::apply(xs, ys, sx, sy, scale, width, height, src, map, dest)
 }
 
@@ -76,10 +76,9 @@ pub extern "C" fn nup_displacement_map(
 ) -> nup_answer
     ensures { λ r. ⌜ Displaced «x_channel» «y_channel» sx sy scale width height src map r dest ⌝ }
 {
-    told(apply_named(
-        test_named(x_channel, y_channel),
-        channel_of(x_channel),
-        channel_of(y_channel),
+    told(apply_numbered(
+        x_channel,
+        y_channel,
         sx,
         sy,
         scale,

@@ -1,9 +1,8 @@
 -- The lengths are tested first, and what passes is handed on.
 use borrow.Author.Needs.{needs}
 use mathlib.Core.Path.{refl, _∙_}
-use Rattle.sheet.proofs.Answers.{refusing}
 use Rattle.sheet.proofs.Tabulated.{copied-all}
-use Rattle.nuprikhen.proofs.Calls.{called-refused, called-done, pair-same}
+use Rattle.nuprikhen.proofs.Calls.{called-tested, called-done, pair-same}
 use Rattle.nuprikhen.proofs.leaves.nup_copy.Statement.{statement}
 use Rattle.nuprikhen.proofs.leaves.nup_copy.Tie as tie
 
@@ -20,9 +19,7 @@ told-requires : tie.Need-told-requires
 told-requires c κs = search needs
 
 returns : tie.Need-returns
-returns c =
-    let tested = c .before .before .before .test in
-    called-refused (tested .ensures) (c .told .ensures) (refusing (tested .result) (c .before .before .match .keys2)) refl
+returns c = called-tested (c .before .before .before .test .ensures) (c .told .ensures) (c .before .before .match .keys2) refl
 
 copy-requires : tie.Need-copy-requires
 copy-requires c κs = search needs

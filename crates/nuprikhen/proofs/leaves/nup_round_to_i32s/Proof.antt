@@ -7,8 +7,7 @@ use mir.Facts.{toZ-ofZ}
 use lib.ListN.{length}
 use lib.Ieee.{nan}
 use Rattle.floats.specs.Round.{roundTo}
-use Rattle.sheet.proofs.Answers.{refusing}
-use Rattle.nuprikhen.proofs.Calls.{called-refused}
+use Rattle.nuprikhen.proofs.Calls.{called-tested}
 use Rattle.nuprikhen.proofs.Mapping.{Mapping, map-start, map-store, map-called}
 use Rattle.nuprikhen.proofs.leaves.nup_round_to_i32s.Statement.{statement}
 use Rattle.nuprikhen.proofs.leaves.nup_round_to_i32s.Tie as tie
@@ -32,9 +31,7 @@ told-requires : tie.Need-told-requires Inv-loop μ-loop
 told-requires c κs = search needs
 
 returns : tie.Need-returns Inv-loop μ-loop
-returns c =
-    let tested = c .before .before .before .test in
-    called-refused (tested .ensures) (c .told .ensures) (refusing (tested .result) (c .before .before .match .keys2)) refl
+returns c = called-tested (c .before .before .before .test .ensures) (c .told .ensures) (c .before .before .match .keys2) refl
 
 loop-holds : tie.Need-loop-holds Inv-loop μ-loop
 loop-holds c = map-start (c .before .before .test .ensures) (c .enum-told .given .1)
@@ -70,7 +67,9 @@ same-length : tie.Need-same-length Inv-loop μ-loop
 same-length c = search needs
 
 returns-2 : tie.Need-returns-2 Inv-loop μ-loop
-returns-2 c = map-called (c .before .before .before .before .before .test .ensures) (c .told2 .ensures) (c .before .before .before .enum-told .given .1) (c .before .before .loop .inv) (c .before .loop-test .left)
+returns-2 c =
+    let the-test = c .before .before .before .before .before .test in
+    map-called (the-test .ensures) (c .told2 .ensures) (c .before .before .before .enum-told .given .1) (c .before .before .loop .inv) (c .before .loop-test .left)
 
 pub nup-round-to-i32s-spec : {M : Type 1} → statement M
 nup-round-to-i32s-spec =

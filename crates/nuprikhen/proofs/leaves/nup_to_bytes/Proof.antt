@@ -4,8 +4,7 @@ use Prim.Native.Nat.{_-_}
 use mathlib.Core.Path.{refl}
 use lib.ListN.{length}
 use lib.Ieee.{nan, toUnsigned}
-use Rattle.sheet.proofs.Answers.{refusing}
-use Rattle.nuprikhen.proofs.Calls.{called-refused}
+use Rattle.nuprikhen.proofs.Calls.{called-tested}
 use Rattle.nuprikhen.proofs.Mapping.{Mapping, map-start, map-store, map-called}
 use Rattle.nuprikhen.proofs.leaves.nup_to_bytes.Statement.{statement}
 use Rattle.nuprikhen.proofs.leaves.nup_to_bytes.Tie as tie
@@ -29,9 +28,7 @@ told-requires : tie.Need-told-requires Inv-loop μ-loop
 told-requires c κs = search needs
 
 returns : tie.Need-returns Inv-loop μ-loop
-returns c =
-    let tested = c .before .before .before .test in
-    called-refused (tested .ensures) (c .told .ensures) (refusing (tested .result) (c .before .before .match .keys2)) refl
+returns c = called-tested (c .before .before .before .test .ensures) (c .told .ensures) (c .before .before .match .keys2) refl
 
 loop-holds : tie.Need-loop-holds Inv-loop μ-loop
 loop-holds c = map-start (c .before .before .test .ensures) (c .enum-told .given .1)
@@ -64,7 +61,9 @@ same-length : tie.Need-same-length Inv-loop μ-loop
 same-length c = search needs
 
 returns-2 : tie.Need-returns-2 Inv-loop μ-loop
-returns-2 c = map-called (c .before .before .before .before .before .test .ensures) (c .told2 .ensures) (c .before .before .before .enum-told .given .1) (c .before .before .loop .inv) (c .before .loop-test .left)
+returns-2 c =
+    let the-test = c .before .before .before .before .before .test in
+    map-called (the-test .ensures) (c .told2 .ensures) (c .before .before .before .enum-told .given .1) (c .before .before .loop .inv) (c .before .loop-test .left)
 
 pub nup-to-bytes-spec : {M : Type 1} → statement M
 nup-to-bytes-spec =
