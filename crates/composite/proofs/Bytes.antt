@@ -1,14 +1,12 @@
 -- The bytes of a pixel are the definition's: they lie in one pixel of each input, and share its alpha.
 use Prim.Native.Nat.{ℕ, _+_, _*_, _/_, _%_, _<_}
-use mathlib.Core.Path.{_≡_, refl, ap, _∙_}
+use mathlib.Core.Path.{_≡_, refl, _∙_}
 use mathlib.Core.Bool.{Bool, true, false, cond}
 use mathlib.Core.List.{List}
 use native.Mathlib.Omega.{arith}
-use lib.ListN.{getD}
 use Rattle.sheet.specs.Pixel.{channel, Channels, PixelAt}
 use Rattle.sheet.proofs.Filling.{channel-of, pixel-channel}
 use Rattle.composite.specs.declared.pixel.Factors.{Factors}
-use Rattle.composite.specs.Arithmetic.{alphaOf, channelOf}
 use Rattle.composite.specs.Composite.{composedAt}
 use Rattle.composite.specs.inner.Pixels.{byte, Composed}
 

@@ -1,16 +1,16 @@
 -- The laws of the edge modes: a place below the target lies before the first, and what is read lies on the side.
-use Prim.Native.Nat.{ℕ, suc, _+_, _-_, _%_, _≤_, _<_, zero-le, min}
-use mathlib.Core.Path.{_≡_, refl, sym, ap, _∙_}
-use mathlib.Core.Bool.{Bool, true, false, cond}
+use Prim.Native.Nat.{ℕ, suc, _+_, _-_, _%_, _≤_, _<_, zero-le}
+use mathlib.Core.Path.{_≡_, refl, sym, _∙_}
+use mathlib.Core.Bool.{true, false}
 use native.Mathlib.Nat.{mod-lt, mod-eq-of-lt}
 use native.Mathlib.Omega.{arith}
 use native.Mathlib.Decide.{decLt}
 use borrow.Author.Tests.{lt-ltb, le-ltb}
 use lib.Dec.{ltb}
-use lib.IntN.{pos, negsuc, subℕ}
+use lib.IntN.{subℕ}
 use Rattle.convolve_matrix.specs.declared.edge.EdgeMode.{EdgeMode}
 use Rattle.convolve_matrix.specs.declared.edge.EdgeMode.the-variants.{None, Duplicate, Wrap}
-use Rattle.convolve_matrix.specs.Edges.{inside, nearest, remainder, placeBy, isRead, place}
+use Rattle.convolve_matrix.specs.Edges.{nearest, remainder, placeBy, isRead, place}
 use Rattle.convolve_matrix.specs.inner.Rows.{lessWithin, Span}
 
 module _ (target n at : ℕ) where

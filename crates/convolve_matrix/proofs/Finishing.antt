@@ -1,5 +1,5 @@
 -- Pixels that are stored along a row, and rows that are stored along a sheet.
-use Prim.Native.Nat.{ℕ, zero, suc, _+_, _-_, _*_, _/_, _%_, _≤_, _<_}
+use Prim.Native.Nat.{ℕ, _+_, _-_, _*_, _/_, _%_, _≤_, _<_}
 use mathlib.Core.Path.{_≡_, refl, sym, ap, _∙_}
 use mathlib.Core.List.{List}
 use native.Mathlib.Nat.{add-zero, suc-mul}
@@ -9,12 +9,12 @@ use native.Mathlib.Decide.{decLt}
 use lib.ListN.{length, getD, set, length-set}
 use lib.Ieee.{Float, nan}
 use Rattle.floats.specs.Constants.{c0}
-use Rattle.sheet.specs.Pixel.{channel, Channels, setChannels, setPixel, column, row, byteAt}
+use Rattle.sheet.specs.Pixel.{channel, setChannels, setPixel, column, row, byteAt}
 use Rattle.sheet.specs.Tabulate.{tabulate}
 use Rattle.sheet.proofs.Filling.{Filling, fill-start, fill-done, channel-of, channels-as}
 use Rattle.sheet.proofs.Places.{rows, column-of-place, row-of-place}
 use Rattle.convolve_matrix.specs.declared.ConvolveMatrix.{ConvolveMatrix}
-use Rattle.convolve_matrix.specs.ConvolveMatrix.{inOrder, rowSum, sumAt, newAlpha, channelOf, alphaAt, convolvedAt}
+use Rattle.convolve_matrix.specs.ConvolveMatrix.{inOrder, rowSum, sumAt, newAlpha, channelOf, convolvedAt}
 use Rattle.convolve_matrix.specs.inner.Rows.{Changed, Added, Finished, finishedAt}
 use Rattle.convolve_matrix.proofs.Stretches.{changed-more}
 use Rattle.convolve_matrix.proofs.Summing.{line-inside}

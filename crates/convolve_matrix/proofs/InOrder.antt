@@ -1,26 +1,24 @@
 -- Order goes through a product, a sum and a cut: of two numbers up to 1, the larger makes the larger byte, a half added or not. Assumes nothing.
 use Prim.Native.Nat.{ℕ, zero, suc, _+_, _-_, _*_, _/_, _%_, _^_, _≤_, _<_, zero-le, min, compare}
-use mathlib.Core.Path.{_≡_, refl, sym, ap, _∙_, subst}
+use mathlib.Core.Path.{_≡_, refl, sym, ap}
 use mathlib.Core.Bool.{Bool, true, false, not, cond, _&&_, _||_, true≢false}
-use native.Mathlib.Nat.{le-refl, le-trans, le-of-eq, mul-pos, mul-one, mul-le-mul-right, mul-le-mul-left, le-of-mul-le-mul-right}
+use native.Mathlib.Nat.{le-refl, mul-pos, mul-le-mul-right, le-of-mul-le-mul-right}
 use native.Mathlib.Omega.{arith}
-use lib.Dec.{T, ltb, eqb, ltb→lt, eqb→eq, nltb→le, lit<, lit≤}
+use lib.Dec.{T, ltb, eqb, ltb→lt, eqb→eq, nltb→le, lit<}
 use lib.Pow.{pow-pos}
 use lib.IntN.{ℤ, pos}
 use lib.Count.{trailingZeros}
-use lib.Ieee.{Float, nan, inf, fin, Format, binary32, low, up, down, minus, size, nearest, units, odd, round, sum, add, mul, lt, le, eq, fits, ofBits, toUnsigned}
-use lib.Ieee.Fits.{down-pos, and-l, and-r, round-is, round-fits}
-use lib.Ieee.Exact.{HasValue, round-exact}
+use lib.Ieee.{Float, nan, inf, fin, binary32, low, up, down, minus, size, nearest, units, odd, round, sum, add, mul, lt, le, eq, ofBits, toUnsigned}
+use lib.Ieee.Fits.{down-pos, and-l, and-r}
+use lib.Ieee.Exact.{HasValue}
 use lib.Ieee.Nearest.{div-mono}
 use lib.Ieee.Order.{round-mono}
-use lib.Ieee.Scale.{round-same}
 use Rattle.floats.specs.Constants.{c0, c1, c255}
 use Rattle.floats.specs.Operators.{_⊕_, _⊗_}
 use Rattle.floats.proofs.Tests.{T-true, T-false}
 use Rattle.floats.proofs.Fractions.{add-at, lt-no}
 use Rattle.floats.proofs.NotAbove.{le-not-gt}
 use Rattle.floats.proofs.Products.{times-at}
-use Rattle.floats.proofs.Units.{Finite, value-unique, in-units}
 use Rattle.floats.proofs.CutAfterRounding.{Between, round-between}
 
 -- ---- the cut

@@ -5,12 +5,11 @@ use mathlib.Core.Path.{_≡_, refl, sym, ap, _∙_}
 use mathlib.Core.Bool.{Bool, true, false, cond}
 use mathlib.Core.List.{List}
 use mathlib.Core.Logic.{_⊎_, ⊎-elim}
-use native.Mathlib.Nat.{le-refl, not-suc-le-zero, mul-add-div-right, mul-add-mod-self-right, mod-eq-of-lt, div-eq-of-lt, mul-assoc}
+use native.Mathlib.Nat.{not-suc-le-zero, mul-add-div-right, mul-add-mod-self-right, mod-eq-of-lt, div-eq-of-lt, mul-assoc}
 use native.Mathlib.Omega.{arith}
 use native.Mathlib.Decide.{ℕ-discrete}
-use borrow.Author.Tests.{eqb-true, lt-ltb}
 use lib.Dec.{eqb}
-use lib.ListN.{length, getD, set, replicate, length-replicate, getD-replicate}
+use lib.ListN.{getD, set, replicate, length-replicate, getD-replicate}
 use lib.Seq.{getD-set-same, getD-set-other}
 use lib.Ieee.{Float, nan}
 use Rattle.floats.specs.Channel.{normalized}
@@ -20,15 +19,13 @@ use Rattle.floats.proofs.ByteNumbers.{times-one, times-zero, plus-zero, zero-pl
 use Rattle.sheet.specs.Pixel.{column, row, byteAt}
 use Rattle.sheet.proofs.Apart.{Bytes, Needed, allBut, at-but, not-at-but, all-same, needed, bytes-inside, length-all-but}
 use Rattle.sheet.proofs.Places.{place-inside, column-inside, row-inside}
-use Rattle.convolve_matrix.specs.declared.edge.EdgeMode.{EdgeMode}
 use Rattle.convolve_matrix.specs.declared.ConvolveMatrix.{ConvolveMatrix}
 use Rattle.convolve_matrix.specs.Edges.{isRead, place}
 use Rattle.convolve_matrix.specs.ConvolveMatrix.{inOrder, turned, tapped, rowSum, sumAt, newAlpha, boundedColour, toByte, channelOf, alphaAt, alphaOf, convolvedBy}
-use Rattle.convolve_matrix.specs.Reads.{Met, Taps, Reads}
+use Rattle.convolve_matrix.specs.Reads.{Taps}
 use Rattle.convolve_matrix.proofs.Edging.{placed, own-read}
-use Rattle.convolve_matrix.proofs.Orders.{in-order-more}
 use Rattle.convolve_matrix.proofs.Summing.{turned-inside}
-use Rattle.convolve_matrix.proofs.Reading.{byte-convolved, wide, high, reads-inside}
+use Rattle.convolve_matrix.proofs.Reading.{byte-convolved, wide, high}
 use Rattle.convolve_matrix.proofs.Unchanged.{plainOf, bounded-number, plain-colour, plain-alpha, channel-kept, to-byte-back}
 use Rattle.convolve_matrix.proofs.WithinAlpha.{alpha-fits, channel-within}
 

@@ -17,7 +17,7 @@ use Rattle.sheet.proofs.Tabulated.{length-tabulate, getD-tabulate}
 use Rattle.convolve_matrix.specs.declared.ConvolveMatrix.{ConvolveMatrix}
 use Rattle.convolve_matrix.specs.Edges.{isRead, place}
 use Rattle.convolve_matrix.specs.ConvolveMatrix.{inOrder, turned, tapped, rowSum, sumAt, sumOf, newAlpha, alphaAt, channelOf, convolvedAt, convolvedBy}
-use Rattle.convolve_matrix.specs.Reads.{Met, Taps, Reads}
+use Rattle.convolve_matrix.specs.Reads.{Taps, Reads}
 use Rattle.convolve_matrix.proofs.Edging.{placed}
 use Rattle.convolve_matrix.proofs.Orders.{in-order-ext}
 

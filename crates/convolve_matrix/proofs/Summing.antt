@@ -6,7 +6,7 @@ use mathlib.Core.List.{List}
 use native.Mathlib.Nat.{suc-mul, mul-le-mul-right}
 use native.Mathlib.Omega.{arith}
 use native.Mathlib.Decide.{decLt}
-use lib.ListN.{length, getD}
+use lib.ListN.{getD}
 use lib.Ieee.{Float, nan}
 use Rattle.floats.specs.Channel.{normalized}
 use Rattle.floats.specs.Operators.{_⊕_, _⊗_}
@@ -16,7 +16,7 @@ use Rattle.convolve_matrix.specs.declared.edge.EdgeMode.{EdgeMode}
 use Rattle.convolve_matrix.specs.declared.ConvolveMatrix.{ConvolveMatrix}
 use Rattle.convolve_matrix.specs.Edges.{isRead, place}
 use Rattle.convolve_matrix.specs.ConvolveMatrix.{inOrder, turned, tapped, rowSum}
-use Rattle.convolve_matrix.specs.inner.Rows.{Changed, Span, Widened, Added, numberAt, shifted, shiftedBy}
+use Rattle.convolve_matrix.specs.inner.Rows.{Changed, Span, Widened, Added, shifted, shiftedBy}
 use Rattle.convolve_matrix.proofs.Orders.{in-order-none, in-order-more, in-order-ext}
 
 -- the turned kernel's numbers are inside

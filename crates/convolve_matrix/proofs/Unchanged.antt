@@ -3,38 +3,36 @@ use Prim.Native.Nat.{ℕ, _+_, _-_, _*_, _/_, _%_, _^_, _≤_, _<_}
 use mathlib.Core.Path.{_≡_, refl, sym, ap, _∙_}
 use mathlib.Core.Bool.{Bool, true, false, cond}
 use mathlib.Core.List.{List, [], _∷_}
-use native.Mathlib.Nat.{mul-assoc, mul-one}
 use native.Mathlib.Omega.{arith}
-use borrow.Author.Tests.{eqb-true, lt-ltb}
-use lib.Dec.{T, eqb, eqb→eq, lit<}
+use borrow.Author.Tests.{eqb-true}
+use lib.Dec.{T, eqb, eqb→eq}
 use lib.ListN.{length, getD}
 use lib.Pow.{pow-pos}
 use lib.IntN.{ℤ}
-use lib.Ieee.{Float, nan, inf, fin, binary32, low, up, down, round, add, mul, div, le, lt, fits, ofInt, ofBits, toUnsigned}
+use lib.Ieee.{Float, nan, inf, fin, binary32, low, up, down, round, add, mul, div, le, fits, ofInt, ofBits, toUnsigned}
 use lib.Ieee.Fits.{down-pos, round-fits, div-fits}
 use lib.Ieee.Exact.{round-exact}
 use lib.Ieee.Scale.{round-same}
 use Rattle.floats.specs.Channel.{normalized}
-use Rattle.floats.specs.Constants.{c0, c1, c255}
+use Rattle.floats.specs.Constants.{c0, c1}
 use Rattle.floats.specs.Operators.{_⊕_, _⊗_, _⊘_}
 use Rattle.floats.specs.Order.{bound}
 use Rattle.floats.specs.inner.Steps.{plain}
 use Rattle.floats.proofs.EveryByte.{every, below}
 use Rattle.floats.proofs.ByteNumbers.{times-one, zero-times, plus-zero, zero-plus, clamp-passes, top-number}
-use Rattle.floats.proofs.Units.{Finite, value-unique, in-units}
+use Rattle.floats.proofs.Units.{value-unique, in-units}
 use Rattle.sheet.specs.declared.Answer.the-variants.{Done}
 use Rattle.sheet.specs.Pixel.{column, row, byteAt}
 use Rattle.sheet.proofs.Apart.{Bytes}
 use Rattle.sheet.proofs.Places.{column-inside, row-inside, byte-place}
 use Rattle.sheet.proofs.Tabulated.{tabulated}
 use Rattle.convolve_matrix.specs.declared.edge.EdgeMode.{EdgeMode}
-use Rattle.convolve_matrix.specs.declared.edge.EdgeMode.the-variants.{None, Duplicate, Wrap}
 use Rattle.convolve_matrix.specs.declared.ConvolveMatrix.{ConvolveMatrix}
-use Rattle.convolve_matrix.specs.Edges.{isRead, place}
+use Rattle.convolve_matrix.specs.Edges.{place}
 use Rattle.pool.specs.Pool.{all, isIn, numbersOf}
 use Rattle.convolve_matrix.specs.ConvolveMatrix.{isSide, isDivisor, isKernel, areFinite, areInRange, kernelAnswer, inOrder, rowSum, sumAt, sumOf, newAlpha, colourValue, boundedColour, bounded, toByte, channelOf, alphaAt, convolvedAt, convolvedBy}
 use Rattle.convolve_matrix.proofs.Edging.{own-place, own-read}
-use Rattle.convolve_matrix.proofs.Reading.{wide, high}
+use Rattle.convolve_matrix.proofs.Reading.{wide}
 
 -- one number 1, with divisor 1 and bias 0
 abbrev pub alone : EdgeMode → ConvolveMatrix

@@ -1,16 +1,14 @@
 -- Every colour of the result is within its alpha: it is bounded by the new alpha, or is a part of it, and the order goes through the rounding to bytes.
-use Prim.Native.Nat.{ℕ, _+_, _*_, _/_, _%_, _^_, _≤_, _<_, zero-le}
-use mathlib.Core.Path.{_≡_, refl, sym, ap, _∙_, subst}
+use Prim.Native.Nat.{ℕ, _+_, _*_, _/_, _%_, _^_, _≤_, _<_}
+use mathlib.Core.Path.{_≡_, refl, ap, _∙_, subst}
 use mathlib.Core.Bool.{Bool, true, false, cond, true≢false}
 use mathlib.Core.List.{List}
 use native.Mathlib.Nat.{le-refl, mul-le-mul-right, mul-pos, mul-zero, zero-mul, mul-assoc}
 use native.Mathlib.Omega.{arith}
-use borrow.Author.Tests.{eqb-true}
 use lib.Dec.{T, eqb, nltb→le, lit<}
-use lib.ListN.{length, getD}
+use lib.ListN.{getD}
 use lib.Pow.{pow-pos}
-use lib.IntN.{ℤ, pos}
-use lib.Ieee.{Float, nan, inf, fin, binary32, low, up, down, unlike, round, add, mul, div, lt, le, fits, ofInt, ofBits, toUnsigned}
+use lib.Ieee.{Float, nan, inf, fin, binary32, low, up, down, unlike, round, add, mul, lt, le, fits, ofBits, toUnsigned}
 use lib.Ieee.Fits.{down-pos, cond-fits, round-fits, add-fits, div-fits}
 use lib.Ieee.Exact.{HasValue, round-exact}
 use lib.Ieee.Order.{round-mono}
@@ -23,7 +21,6 @@ use Rattle.floats.proofs.Fractions.{lt-no}
 use Rattle.floats.proofs.NotAbove.{le-not-gt}
 use Rattle.floats.proofs.Products.{times-at}
 use Rattle.floats.proofs.Units.{Finite, value-unique, in-units}
-use Rattle.sheet.specs.Pixel.{column, row}
 use Rattle.convolve_matrix.specs.declared.ConvolveMatrix.{ConvolveMatrix}
 use Rattle.convolve_matrix.specs.ConvolveMatrix.{newAlpha, colourValue, boundedColour, bounded, toByte, colourOf, alphaOf, channelOf, alphaAt, newAlphaOf, sumOf, convolvedAt, convolvedBy}
 use Rattle.convolve_matrix.proofs.InOrder.{rounded-negative, zero-byte, nan-byte, not-above-zero, bytes-in-order}

@@ -9,7 +9,6 @@ use pool::Numbers;
 use sheet::Answer;
 use sheet::Refusal;
 ghost use mathlib.Core.Path.{_≡_};
-ghost use lib.ListN.{length};
 ghost use Rattle.sheet.specs.Contract.{was, Filtered, Cleared};
 ghost use Rattle.convolve_matrix.specs.ConvolveMatrix.{isSide, isDivisor, isKernel, areFinite, areInRange, kernelAnswer, answer, convolved};
 

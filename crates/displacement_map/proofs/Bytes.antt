@@ -1,6 +1,6 @@
 -- The bytes of a pixel are the definition's: the map's two channels send it to one pixel of the picture.
-use Prim.Native.Nat.{ℕ, zero, suc, _+_, _*_, _/_, _%_, _≤_, _<_}
-use mathlib.Core.Path.{_≡_, refl, sym, ap, _∙_, subst}
+use Prim.Native.Nat.{ℕ, zero, suc, _+_, _*_, _/_, _%_, _<_}
+use mathlib.Core.Path.{_≡_, sym, ap, _∙_}
 use mathlib.Core.List.{List}
 use native.Mathlib.Nat.{mod-lt, mod-eq-of-lt, lt-of-mul-lt-mul-right}
 use native.Mathlib.Omega.{arith}
@@ -10,7 +10,7 @@ use lib.Dec.{lit<}
 use lib.Ieee.{Float, nan, binary32, ofInt}
 use Rattle.floats.specs.Operators.{_⊕_}
 use Rattle.floats.specs.Round.{roundTo}
-use Rattle.sheet.specs.Pixel.{column, row, byteAt, channel, PixelAt}
+use Rattle.sheet.specs.Pixel.{column, row, channel, PixelAt}
 use Rattle.sheet.proofs.Filling.{pixel-channel}
 use Rattle.sheet.proofs.Places.{rows, column-of-place, row-of-place, channel-of-place}
 use Rattle.displacement_map.specs.declared.ColorChannel.{ColorChannel}

@@ -1,20 +1,20 @@
 -- No byte of the map that a byte of the result reads is read in vain: by sx = sy = 1 and scale = 2 a byte 128 leaves the place, and a byte 255 moves it by one. And every byte of the
 -- picture to which a map sends a byte is needed. Document 01 counts bytes of the picture all the same that no map sends it to: the columns and rows at D itself, which is one more than any
 -- target's distance (Distance.target-near), and those between the 256 targets where |s * scale| is above 255.
-use Prim.Native.Nat.{ℕ, suc, _+_, _-_, _*_, _/_, _%_, _^_, _≤_, _<_}
+use Prim.Native.Nat.{ℕ, suc, _+_, _-_, _*_, _/_, _%_, _≤_, _<_}
 use mathlib.Core.Path.{_≡_, refl, sym, ap, _∙_, subst}
-use mathlib.Core.Bool.{Bool, true, false, cond, _&&_}
+use mathlib.Core.Bool.{Bool, true, false, cond}
 use mathlib.Core.List.{List}
 use mathlib.Core.Logic.{⊎-elim}
 use native.Mathlib.Nat.{zero-lt-suc, mul-assoc, mul-le-mul-right, le-of-lt, lt-of-lt-of-le, lt-of-mul-lt-mul-right}
 use native.Mathlib.Omega.{arith}
 use native.Mathlib.Decide.{ℕ-discrete}
 use borrow.Author.Tests.{lt-ltb, ltb-true}
-use lib.Dec.{T, leb, ltb, leb→le, lit≤, lit<}
+use lib.Dec.{T, leb, ltb, leb→le, lit<}
 use lib.IntN.{ℤ, pos}
-use lib.ListN.{length, getD, set, replicate}
+use lib.ListN.{getD, replicate}
 use lib.Seq.{getD-set-other}
-use lib.Ieee.{Float, nan, inf, fin, binary32, up, down, round, sum, add, sub, mul, div, ofInt, ofBits}
+use lib.Ieee.{Float, binary32, round, sum, add, sub, mul, div, ofInt, ofBits}
 use lib.Ieee.Exact.{HasValue}
 use lib.Ieee.Positive.{num, den, den-pos}
 use Rattle.floats.specs.Channel.{normalized}
@@ -28,7 +28,7 @@ use Rattle.sheet.specs.Size.{Sized, sideLimit}
 use Rattle.sheet.proofs.Apart.{Needed, allBut, length-all-but, at-but, not-at-but, all-same, bytes-all-but, needed}
 use Rattle.sheet.proofs.Places.{place-inside, column-inside, row-inside, byte-place, column-of-place, row-of-place}
 use Rattle.displacement_map.specs.declared.ColorChannel.{ColorChannel}
-use Rattle.displacement_map.specs.DisplacementMap.{offset, shift, place, targetOf, channelNumber, mapAt, pictureAt, displacedAt, displaced}
+use Rattle.displacement_map.specs.DisplacementMap.{offset, shift, place, targetOf, channelNumber, mapAt, pictureAt, displaced}
 use Rattle.displacement_map.specs.Reads.{ReadsMap}
 use Rattle.displacement_map.proofs.Distance.{column-value}
 use Rattle.displacement_map.proofs.Bytes.{number-few}

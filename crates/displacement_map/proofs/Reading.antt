@@ -1,25 +1,25 @@
 -- What a byte of the result reads: it depends on nothing else, it reads some byte of the map and of the picture, and all that it reads lies in the sheets.
 use Prim.Native.Nat.{ℕ, _+_, _*_, _/_, _%_, _<_}
-use mathlib.Core.Path.{_≡_, refl, sym, ap, _∙_, subst}
+use mathlib.Core.Path.{_≡_, refl, sym, ap, _∙_}
 use mathlib.Core.Bool.{Bool, true, false, cond}
 use mathlib.Core.List.{List}
 use mathlib.Core.Logic.{inl, inr, ⊎-elim}
 use native.Mathlib.Nat.{lt-of-lt-of-le, mul-assoc}
 use native.Mathlib.Omega.{arith}
 use borrow.Author.Tests.{ltb-true}
-use lib.Dec.{T, ltb}
+use lib.Dec.{ltb}
 use lib.IntN.{ℤ, pos, negsuc}
 use lib.ListN.{length, getD}
 use lib.Ieee.{Float}
-use Rattle.sheet.specs.Pixel.{column, row, byteAt, Near}
-use Rattle.sheet.specs.Size.{Sized, sideLimit}
+use Rattle.sheet.specs.Pixel.{column, row, byteAt}
+use Rattle.sheet.specs.Size.{Sized}
 use Rattle.sheet.specs.declared.Answer.the-variants.{Done}
 use Rattle.sheet.proofs.Places.{place-inside, column-inside, row-inside, byte-place}
 use Rattle.sheet.proofs.Tabulated.{length-tabulate, getD-tabulate}
 use Rattle.displacement_map.specs.declared.ColorChannel.{ColorChannel}
-use Rattle.displacement_map.specs.DisplacementMap.{inCanvas, inScale, scalesAnswer, targetOf, channelNumber, mapAt, pictureAt, displacedAt, displaced}
-use Rattle.displacement_map.specs.Reads.{distance, ReadsMap, ReadsPicture}
-use Rattle.displacement_map.proofs.Distance.{Scales, accepted, column-near}
+use Rattle.displacement_map.specs.DisplacementMap.{scalesAnswer, targetOf, channelNumber, mapAt, pictureAt, displacedAt, displaced}
+use Rattle.displacement_map.specs.Reads.{ReadsMap, ReadsPicture}
+use Rattle.displacement_map.proofs.Distance.{accepted, column-near}
 use Rattle.displacement_map.proofs.Bytes.{number-few, byte-few}
 
 -- pictures that agree on every place of one column and one row that lie on the sheet agree there

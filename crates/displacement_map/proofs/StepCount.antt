@@ -1,24 +1,24 @@
 -- The steps of a place, by its value: its product with 2 ^ 25 is exact, and either whole, or so small that the place rounds to 0. Assumes nothing.
 use mathlib.Core.Path.{_≡_, refl, sym, ap, _∙_, subst}
 use mathlib.Core.Logic.{_⊎_, inl, inr, ⊎-elim}
-use Prim.Native.Nat.{ℕ, zero, suc, _+_, _-_, _*_, _/_, _%_, _^_, _≤_, _<_, min}
-use native.Mathlib.Nat.{zero-lt-suc, le-of-lt, le-of-eq, le-trans, lt-of-lt-of-le, lt-of-le-of-lt, mul-one, mul-comm, mul-assoc, mul-right-comm, mul-pos, mul-le-mul, mul-le-mul-left, mul-le-mul-right, mul-lt-mul-of-pos-right, lt-of-mul-lt-mul-right, eq-of-mul-eq-mul-right, div-eq-of-lt, min-eq-left}
+use Prim.Native.Nat.{ℕ, zero, suc, _+_, _-_, _*_, _/_, _%_, _^_, _≤_, _<_}
+use native.Mathlib.Nat.{zero-lt-suc, le-of-eq, le-trans, lt-of-lt-of-le, lt-of-le-of-lt, mul-one, mul-assoc, mul-right-comm, mul-le-mul-left, mul-le-mul-right, mul-lt-mul-of-pos-right, lt-of-mul-lt-mul-right, eq-of-mul-eq-mul-right, div-eq-of-lt, min-eq-left}
 use native.Mathlib.Omega.{arith}
 use native.Mathlib.Decide.{decLe}
-use mathlib.Core.Bool.{Bool, true, false, not, cond, _&&_}
-use lib.IntN.{ℤ, pos, negsuc, negℤ}
+use mathlib.Core.Bool.{Bool, true, false, not, cond}
+use lib.IntN.{ℤ, pos, negℤ}
 use lib.Dec.{T, ltb, lt→ltb, lit≤, lit<}
 use lib.Pow.{pow-add, pow-pos, pow-mono}
-use lib.Ieee.{Float, nan, inf, fin, Format, binary32, binary64, up, down, round, sum, add, mul, fits, isNan, toBits}
+use lib.Ieee.{Float, nan, inf, fin, binary32, binary64, up, down, round, sum, add, mul, fits, isNan, toBits}
 use lib.Ieee.Digits.{back}
 use lib.Ieee.Exact.{HasValue, round-exact}
 use lib.Ieee.Fits.{down-pos, add-fits}
 use lib.Ieee.Nearest.{div-same}
 use lib.Ieee.Scale.{overflow}
 use Rattle.floats.specs.Round.{away, roundTo}
-use Rattle.floats.proofs.Away.{away-le, away-zero, twice-pos}
+use Rattle.floats.proofs.Away.{away-le, twice-pos}
 use Rattle.floats.proofs.Tests.{is-true}
-use Rattle.floats.proofs.Units.{Units, in-units}
+use Rattle.floats.proofs.Units.{in-units}
 use Rattle.floats.proofs.SignedSums.{add-signed}
 use Rattle.floats.proofs.WholePatterns.{Counts, counts}
 use Rattle.displacement_map.specs.inner.Moving.{Small, Steps}

@@ -1,24 +1,21 @@
 -- A scale of 0 leaves the picture: whatever the map is, each target is its own place.
-use Prim.Native.Nat.{ℕ, suc, _+_, _*_, _/_, _%_, _<_}
-use mathlib.Core.Path.{_≡_, refl, sym, ap, _∙_}
+use Prim.Native.Nat.{ℕ, _*_, _<_}
+use mathlib.Core.Path.{_≡_, sym, ap, _∙_}
 use mathlib.Core.List.{List}
 use native.Mathlib.Nat.{lt-of-lt-of-le}
 use native.Mathlib.Omega.{arith}
 use borrow.Author.Tests.{lt-ltb}
-use lib.Dec.{T, lit≤}
-use lib.IntN.{ℤ, pos, natAbs, _-ℤ_}
 use lib.ListN.{length, getD}
 use lib.Ieee.{Float, ofBits}
-use lib.Ieee.Positive.{num, den}
 use Rattle.floats.specs.Constants.{c0}
-use Rattle.sheet.specs.Pixel.{column, row, byteAt}
-use Rattle.sheet.specs.Size.{Sized, sideLimit}
+use Rattle.sheet.specs.Pixel.{column, row}
+use Rattle.sheet.specs.Size.{Sized}
 use Rattle.sheet.specs.declared.Answer.the-variants.{Done}
 use Rattle.sheet.proofs.Places.{column-inside, row-inside, byte-place}
 use Rattle.sheet.proofs.Tabulated.{tabulated}
 use Rattle.displacement_map.specs.declared.ColorChannel.{ColorChannel}
-use Rattle.displacement_map.specs.DisplacementMap.{inCanvas, inScale, scalesAnswer, targetOf, mapAt, pictureAt, displacedAt, displaced}
-use Rattle.displacement_map.proofs.Distance.{Scales, accepted, lands-at}
+use Rattle.displacement_map.specs.DisplacementMap.{scalesAnswer, mapAt, displacedAt, displaced}
+use Rattle.displacement_map.proofs.Distance.{accepted, lands-at}
 use Rattle.displacement_map.proofs.Bytes.{byte-few}
 
 module _ (xs ys : ColorChannel) (sx sy : Float) (w h : ℕ) (src map : List ℕ) (sized : Sized w h) (tests : scalesAnswer sx sy c0 ≡ Done) (e : length src ≡ 4 * w * h) where

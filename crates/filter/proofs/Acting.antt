@@ -57,20 +57,31 @@ module _ {w h : ℕ} where
   pub fits-of : {a b c d s : List ℕ} → sheetsAnswer w h [] ≡ Done → length a ≡ 4 * w * h → length b ≡ 4 * w * h → length c ≡ 4 * w * h → length d ≡ 4 * w * h → length s ≡ 4 * w * h → Fits w h (slots a b c d) s
   fits-of {a} {b} {c} {d} z p q r t l = record { sized = z; slot = every-length a b c d p q r t; spare = l }
 
-  -- the tests 1 and 2 of a filter's own call pass: of the output alone, of one picked sheet, with or without the scratch, and of two
-  module _ {x : Slots} {scratch : List ℕ} {n : ℕ} (f : Fits w h x scratch) (o : n ≡ 4 * w * h) where
-    pub none-fits : sheetsAnswer w h (n ∷ []) ≡ Done
-    none-fits = sheets-add w h _ _ (f .sized) o
+  -- two picked sheets, the output and the scratch pass the tests 1 and 2
+  pub all-fit : {x : Slots} {scratch l l′ : List ℕ} {n : ℕ} → Fits w h x scratch → n ≡ 4 * w * h → (s s′ : ℕ) → s ≤ 3 → s′ ≤ 3 → l ≡ slotOf x s → l′ ≡ slotOf x s′ → sheetsAnswer w h (length l ∷ length l′ ∷ n ∷ length scratch ∷ []) ≡ Done
+  all-fit f o s s′ q q′ e e′ =
+      let out = sheets-add w h _ _ (sheets-add w h _ _ (f .sized) (f .spare)) o in
+      sheets-add w h _ _ (sheets-add w h _ _ out (ap length e′ ∙ f .slot s′ q′)) (ap length e ∙ f .slot s q)
 
-    pub lone-fits : {l : List ℕ} (s : ℕ) → s ≤ 3 → l ≡ slotOf x s → sheetsAnswer w h (length l ∷ n ∷ []) ≡ Done
-    lone-fits {l} s q e = sheets-add w h _ _ none-fits (ap length e ∙ f .slot s q)
+-- and so do fewer of them
+module _ (w h a b n s : ℕ) (e : sheetsAnswer w h (a ∷ b ∷ n ∷ s ∷ []) ≡ Done) where
+  after-first : (a ≡ 4 * w * h) × (sheetsAnswer w h (b ∷ n ∷ s ∷ []) ≡ Done)
+  after-first = sheets-first w h a _ e
 
-    pub one-fits : {l : List ℕ} (s : ℕ) → s ≤ 3 → l ≡ slotOf x s → sheetsAnswer w h (length l ∷ n ∷ length scratch ∷ []) ≡ Done
-    one-fits {l} s q e =
-        sheets-add w h _ _ (sheets-add w h _ _ (sheets-add w h _ _ (f .sized) (f .spare)) o) (ap length e ∙ f .slot s q)
+  after-second : (b ≡ 4 * w * h) × (sheetsAnswer w h (n ∷ s ∷ []) ≡ Done)
+  after-second = sheets-first w h b _ (after-first .1)
 
-    pub two-fit : {l l′ : List ℕ} (s s′ : ℕ) → s ≤ 3 → s′ ≤ 3 → l ≡ slotOf x s → l′ ≡ slotOf x s′ → sheetsAnswer w h (length l ∷ length l′ ∷ n ∷ []) ≡ Done
-    two-fit {l} {l′} s s′ q q′ e e′ = sheets-add w h _ _ (lone-fits s′ q′ e′) (ap length e ∙ f .slot s q)
+  pub none-fits : sheetsAnswer w h (n ∷ []) ≡ Done
+  none-fits = let out = sheets-first w h n _ (after-second .1) in sheets-add w h n _ (sheets-first w h s _ (out .1) .1) (out .0)
+
+  pub lone-fits : sheetsAnswer w h (a ∷ n ∷ []) ≡ Done
+  lone-fits = sheets-add w h a _ none-fits (after-first .0)
+
+  pub one-fits : sheetsAnswer w h (a ∷ n ∷ s ∷ []) ≡ Done
+  one-fits = sheets-add w h a _ (after-second .1) (after-first .0)
+
+  pub two-fit : sheetsAnswer w h (a ∷ b ∷ n ∷ []) ≡ Done
+  two-fit = sheets-add w h a _ (sheets-add w h b _ none-fits (after-second .0)) (after-first .0)
 
 -- a filter that works in place, on a copy of the sheet a in the sheet b
 module _ (w h : ℕ) (a b : List ℕ) (l : List ℕ) (e : sheetsAnswer w h (length a ∷ length b ∷ l) ≡ Done) where

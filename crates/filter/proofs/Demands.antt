@@ -1,5 +1,5 @@
 -- The demands hold: each follows from the contract `Ran`, the first two by what steps leave, the third by the induction of Isolation.
-use Prim.Native.Nat.{ℕ, zero, suc, _*_, _≤_, _<_}
+use Prim.Native.Nat.{ℕ, zero, suc, _*_, _<_}
 use mathlib.Core.Path.{_≡_, refl, sym, ap, _∙_}
 use mathlib.Core.Bool.{Bool, true, false}
 use mathlib.Core.List.{List}
@@ -10,10 +10,9 @@ use borrow.Author.Tests.{eqb-true, eqb-false}
 use lib.ListN.{length, getD}
 use lib.Dec.{eqb}
 use lib.Ieee.{Float}
-use Rattle.sheet.specs.declared.Answer.{Answer}
 use Rattle.sheet.specs.declared.Answer.the-variants.{Done}
 use Rattle.sheet.specs.Answer.{onDone}
-use Rattle.sheet.specs.Contract.{was, became}
+use Rattle.sheet.specs.Contract.{was}
 use Rattle.sheet.specs.Tabulate.{zeros}
 use Rattle.sheet.proofs.Answers.{stays, sheets-sized}
 use Rattle.sheet.proofs.Contracts.{holds-new}
@@ -21,13 +20,13 @@ use Rattle.recipe.specs.declared.Kind.{Kind}
 use Rattle.recipe.specs.declared.Recipe.{Recipe}
 use Rattle.recipe.specs.declared.Step.{Step}
 use Rattle.recipe.specs.declared.contents.Contents.{Contents}
-use Rattle.recipe.specs.Contents.{atFirst, workMakes, contents}
+use Rattle.recipe.specs.Contents.{atFirst, contents}
 use Rattle.recipe.specs.Tests.{stepAnswer, stepOf, runAnswer}
 use Rattle.filter.specs.Slots.{Slots, slotOf, made, acts}
 use Rattle.filter.specs.Call.{Call, slotsWere, slotsBecame, lengths, answer, allSteps, Ran}
 use Rattle.filter.specs.Reach.{stepReads, Reach, Reaching}
-use Rattle.filter.specs.Demands.{AnyInputGetsAnAnswer, WrittenLast, EveryByteDefined, EveryOutputByteIsTheDefinitions, SameRequest, AByteDrawsOnItsReach, OneOutcome, OneYesOrNo}
-use Rattle.filter.specs.inner.Engine.{Legal, Fits}
+use Rattle.filter.specs.Demands.{AnyInputGetsAnAnswer, EveryOutputByteIsTheDefinitions, SameRequest, AByteDrawsOnItsReach, OneOutcome, OneYesOrNo}
+use Rattle.filter.specs.inner.Engine.{Legal}
 use Rattle.filter.proofs.Works.{reads-cover}
 use Rattle.filter.proofs.Accepted.{Held, held-same, held-kept, makes-sheet, legal, steps-passed, steps-legal, sheets-passed, recipe-passed, slots-fit}
 use Rattle.filter.proofs.Isolation.{slot-written, slot-kept, isolated}

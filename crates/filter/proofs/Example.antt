@@ -1,10 +1,10 @@
 -- Document 01's example of reach: dilated by 1 by 0 twice, at width 5, alpha of pixel 0 reaches the source alphas of the pixels 0, 1 and 2, and nothing else.
-use Prim.Native.Nat.{ℕ, zero, suc, _+_, _*_, _/_, _%_, _<_}
+use Prim.Native.Nat.{ℕ, zero, suc, _+_, _*_, _%_, _<_}
 use mathlib.Core.Path.{_≡_, refl, _∙_}
-use mathlib.Core.List.{List, []}
+use mathlib.Core.List.{[]}
 use mathlib.Core.Logic.{_⊎_, inl, inr}
 use native.Mathlib.Omega.{arith}
-use lib.Ieee.{Float, ofBits}
+use lib.Ieee.{ofBits}
 use Rattle.floats.specs.Constants.{c0, c1}
 use Rattle.floats.specs.Round.{roundTo}
 use Rattle.sheet.specs.Pixel.{column, row, byteAt}

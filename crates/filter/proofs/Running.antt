@@ -1,6 +1,6 @@
 -- The contracts of `run` and of `reaches`: how a refusal and a success show them, and that `reaches` has one outcome.
-use Prim.Native.Nat.{ℕ, _*_, _<_}
-use mathlib.Core.Path.{_≡_, refl, sym, _∙_}
+use Prim.Native.Nat.{_*_, _<_}
+use mathlib.Core.Path.{_≡_, sym, _∙_}
 use mathlib.Core.Bool.{Bool, true, false, false≢true}
 use native.Mathlib.Nat.{mul-le-mul}
 use native.Mathlib.Omega.{arith}
@@ -13,10 +13,9 @@ use Rattle.sheet.specs.Size.{Sized}
 use Rattle.sheet.specs.Tabulate.{zeros}
 use Rattle.sheet.proofs.Answers.{stays, sheets-sized}
 use Rattle.sheet.proofs.Contracts.{holds-refused, holds-done}
-use Rattle.filter.specs.declared.ReachAnswer.{ReachAnswer}
 use Rattle.recipe.specs.Tests.{stepOf}
 use Rattle.filter.specs.Call.{Call, slotsWere, slotsBecame, lengths, answer, allSteps, Ran}
-use Rattle.filter.specs.Reach.{stepReads, result, Reaching, ReachesExactly}
+use Rattle.filter.specs.Reach.{stepReads, result, ReachesExactly}
 use Rattle.filter.specs.inner.Engine.{reachesAt}
 use Rattle.filter.proofs.Works.{Covers, reads-cover}
 use Rattle.filter.proofs.Accepted.{sheets-passed}

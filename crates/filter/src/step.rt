@@ -6,6 +6,7 @@ use displacement_map::ColorChannel;
 use lighting::Color;
 use lighting::LightSource;
 use morphology::MorphologyOperator;
+use recipe::Inputs;
 use recipe::Recipe;
 use recipe::Step;
 use recipe::Work;
@@ -31,7 +32,7 @@ ghost use Rattle.lighting.specs.Lighting.{diffuseAnswer, specularAnswer, lit, d
 ghost use Rattle.recipe.specs.Tests.{workAnswer, stepOf, stepLimit};
 ghost use Rattle.filter.specs.Slots.{slots, slotOf, made, act, acts};
 ghost use Rattle.recipe.specs.Contents.{inputsOf};
-ghost use Rattle.filter.specs.inner.Engine.{Fits, IsInput, Legal};
+ghost use Rattle.filter.specs.inner.Engine.{Fits, IsInput, MadeOf, Legal};
 
 // The sheet in a slot; a slot outside 0..=3 has no bytes.
 fn pick<'a>(slot: u32, a: &'a [u8], b: &'a [u8], c: &'a [u8], d: &'a [u8]) -> &'a [u8]
@@ -228,6 +229,45 @@ fn specular_into(
     );
 }
 
+// Writes to `out` what the work makes of the sheets that it reads: of the first, and of the second where there are two.
+fn work_on(
+    work: Work,
+    pool: &[f32],
+    size: Size,
+    src1: &[u8],
+    src2: &[u8],
+    out: &mut [u8],
+    scratch: &mut [u8],
+)
+    requires { ⌜ sheetsAnswer (size .width) (size .height) (length (now src1) ∷ length (now src2) ∷ length (now out) ∷ length (now scratch) ∷ []) ≡ Done ⌝ }
+    requires { ⌜ workAnswer work (now pool) ≡ Done ⌝ }
+    ensures { λ _. ⌜ MadeOf work (was pool) (size .width) (size .height) (was src1) (was src2) (became out) ⌝ }
+{
+    match work {
+        Work::Morphology(_, operator, rx, ry) => {
+            morphology_into(operator, rx, ry, size, src1, out, scratch)
+        }
+        Work::Arithmetic(_, _, k1, k2, k3, k4) => {
+            arithmetic_into(k1, k2, k3, k4, size, src1, src2, out)
+        }
+        Work::ColorMatrix(_, matrix) => matrix_into(matrix, pool, size, src1, out),
+        Work::ComponentTransfer(_, red, green, blue, alpha) => {
+            transfer_into(red, green, blue, alpha, pool, size, src1, out)
+        }
+        Work::ConvolveMatrix(_, matrix) => convolve_into(matrix, pool, size, src1, out, scratch),
+        Work::DisplacementMap(_, _, x_channel, y_channel, sx, sy, scale) => {
+            displacement_into(x_channel, y_channel, sx, sy, scale, size, src1, src2, out)
+        }
+        Work::Turbulence(t) => turbulence_into(t, size, out),
+        Work::DiffuseLighting(_, light, scale, constant, color) => {
+            diffuse_into(light, scale, constant, color, size, src1, out)
+        }
+        Work::SpecularLighting(_, light, scale, constant, exponent, color) => {
+            specular_into(light, scale, constant, exponent, color, size, src1, out)
+        }
+    }
+}
+
 // Writes to `out` what the work makes of the slots a, b, c and d.
 fn work_into<'a>(
     work: Work,
@@ -246,41 +286,17 @@ fn work_into<'a>(
     requires { ⌜ ((s : ℕ) → IsInput (inputsOf work) s → s ≤ 3) ⌝ }
     ensures { λ _. ⌜ became out ≡ made work (was pool) (size .width) (size .height) (slotOf (slots (was a) (was b) (was c) (was d))) ⌝ }
 {
-    match work {
-        Work::Morphology(s, operator, rx, ry) => {
+    let inputs = recipe::inputs_of(work);
+    match inputs {
+        Inputs::None => work_on(work, pool, size, a, a, out, scratch),
+        Inputs::One(s) => {
             let src = pick(s, a, b, c, d);
-            morphology_into(operator, rx, ry, size, src, out, scratch)
+            work_on(work, pool, size, src, src, out, scratch)
         }
-        Work::Arithmetic(s, t, k1, k2, k3, k4) => {
+        Inputs::Two(s, t) => {
             let src1 = pick(s, a, b, c, d);
             let src2 = pick(t, a, b, c, d);
-            arithmetic_into(k1, k2, k3, k4, size, src1, src2, out)
-        }
-        Work::ColorMatrix(s, matrix) => {
-            let src = pick(s, a, b, c, d);
-            matrix_into(matrix, pool, size, src, out)
-        }
-        Work::ComponentTransfer(s, red, green, blue, alpha) => {
-            let src = pick(s, a, b, c, d);
-            transfer_into(red, green, blue, alpha, pool, size, src, out)
-        }
-        Work::ConvolveMatrix(s, matrix) => {
-            let src = pick(s, a, b, c, d);
-            convolve_into(matrix, pool, size, src, out, scratch)
-        }
-        Work::DisplacementMap(s, t, x_channel, y_channel, sx, sy, scale) => {
-            let src = pick(s, a, b, c, d);
-            let map = pick(t, a, b, c, d);
-            displacement_into(x_channel, y_channel, sx, sy, scale, size, src, map, out)
-        }
-        Work::Turbulence(t) => turbulence_into(t, size, out),
-        Work::DiffuseLighting(s, light, scale, constant, color) => {
-            let src = pick(s, a, b, c, d);
-            diffuse_into(light, scale, constant, color, size, src, out)
-        }
-        Work::SpecularLighting(s, light, scale, constant, exponent, color) => {
-            let src = pick(s, a, b, c, d);
-            specular_into(light, scale, constant, exponent, color, size, src, out)
+            work_on(work, pool, size, src1, src2, out, scratch)
         }
     }
 }

@@ -1,5 +1,4 @@
 -- The one shape of a filter's contract: its answer and every lent element are fixed by definitions.
-use Prim.Native.Nat.{ℕ}
 use mathlib.Core.Path.{_≡_}
 use mathlib.Core.List.{List}
 use lib.ListN.{length}

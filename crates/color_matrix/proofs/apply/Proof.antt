@@ -31,17 +31,26 @@ enum-told-4 c = search needs
 
 returns-2 : tie.Need-returns-2
 unfolding answer
-returns-2 c = filtered-refused (next-test (c .before .before .before .before .before .test1 .ensures) (c .before .before .before .enum-told .given .1) (c .before .before .test .ensures)) (refusing (c .before .before .test .result) (c .before .match2 .keys2)) refl
+returns-2 c =
+    let the-test1 = c .before .before .before .before .before .test1 in
+    filtered-refused (next-test (the-test1 .ensures) (c .before .before .before .enum-told .given .1) (c .before .before .test .ensures)) (refusing (c .before .before .test .result) (c .before .match2 .keys2)) refl
 
 apply-tested-requires : tie.Need-apply-tested-requires
-apply-tested-requires c κs = (sym (c .before .before .before .test .ensures) ∙ c .before .enum-told3 .given .1, sheets-pixels (c .before .before .before .before .before .before .before .before .before .args .width) (c .before .before .before .before .before .before .before .before .before .args .height) _ _ (sym (c .before .before .before .before .before .before .test1 .ensures) ∙ c .before .before .before .before .enum-told .given .1))
+apply-tested-requires c κs =
+    let the-args = c .before .before .before .before .before .before .before .before .before .args in
+    let the-test1 = c .before .before .before .before .before .before .test1 in
+    (sym (c .before .before .before .test .ensures) ∙ c .before .enum-told3 .given .1, sheets-pixels (the-args .width) (the-args .height) _ _ (sym (the-test1 .ensures) ∙ c .before .before .before .before .enum-told .given .1))
 
 same-length : tie.Need-same-length
 same-length c = search needs
 
 returns-3 : tie.Need-returns-3
 unfolding answer
-returns-3 c = filtered-done (next-test (c .before .before .before .before .before .before .before .before .before .test1 .ensures) (c .before .before .before .before .before .before .before .enum-told .given .1) (c .before .before .before .before .before .before .test .ensures)) (c .before .before .before .before .enum-told3 .given .1) (c .before .before .apply-tested .ensures)
+returns-3 c =
+    let the-test1 = c .before .before .before .before .before .before .before .before .before .test1 in
+    let the-enum-told = c .before .before .before .before .before .before .before .enum-told in
+    let the-test = c .before .before .before .before .before .before .test in
+    filtered-done (next-test (the-test1 .ensures) (the-enum-told .given .1) (the-test .ensures)) (c .before .before .before .before .enum-told3 .given .1) (c .before .before .apply-tested .ensures)
 
 pub apply-spec : {M : Type 1} → statement M
 apply-spec =

@@ -1,6 +1,6 @@
 -- The tests come in the definition's order, and what passes them is displaced.
 use borrow.Author.Needs.{needs}
-use mathlib.Core.Path.{refl, sym, _∙_}
+use mathlib.Core.Path.{refl}
 use Rattle.sheet.proofs.Answers.{refusing, both-tests, both-pass, sheets-first, sheets-sized}
 use Rattle.sheet.proofs.Contracts.{filtered-refused, filtered-done}
 use Rattle.displacement_map.specs.DisplacementMap.{answer}

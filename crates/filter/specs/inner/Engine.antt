@@ -12,9 +12,10 @@ use Rattle.sheet.specs.Size.{sheetsAnswer}
 use Rattle.recipe.specs.declared.Inputs.{Inputs}
 use Rattle.recipe.specs.declared.Inputs.the-variants.{None, One, Two}
 use Rattle.recipe.specs.declared.Step.{Step}
+use Rattle.recipe.specs.declared.Work.{Work}
 use Rattle.recipe.specs.Contents.{inputsOf}
 use Rattle.recipe.specs.Tests.{workAnswer}
-use Rattle.filter.specs.Slots.{Slots, slotOf}
+use Rattle.filter.specs.Slots.{Slots, slotOf, made}
 
 -- the sides pass test 1, and each sheet has their length
 pub record Fits (w h : ℕ) (x : Slots) (scratch : List ℕ) : Type 0 where
@@ -27,6 +28,16 @@ abbrev pub IsInput : Inputs → ℕ → Type 0
 IsInput None s = ⊥
 IsInput (One a) s = s ≡ a
 IsInput (Two a b) s = (s ≡ a) ⊎ (s ≡ b)
+
+-- get s is the sheet in slot s, and the sheets in the slots that are read are a, and b where there are two
+abbrev pub Gets : Inputs → (ℕ → List ℕ) → List ℕ → List ℕ → Type 0
+Gets None get a b = Unit
+Gets (One s) get a b = get s ≡ a
+Gets (Two s t) get a b = (get s ≡ a) × (get t ≡ b)
+
+-- d is what a work makes of the sheets that it reads
+abbrev pub MadeOf : Work → List Float → ℕ → ℕ → (a b d : List ℕ) → Type 0
+MadeOf work pool w h a b d = (get : ℕ → List ℕ) → Gets (inputsOf work) get a b → d ≡ made work pool w h get
 
 -- a step that passed its tests
 pub record Legal (s : Step) (pool : List Float) : Type 0 where

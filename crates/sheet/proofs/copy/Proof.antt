@@ -1,7 +1,7 @@
 -- Each byte passed is src's; past the shorter length a byte is dst's own.
 use borrow.Author.Needs.{needs}
 use Prim.Native.Nat.{_-_, _≤_, min}
-use mathlib.Core.Path.{_≡_, refl}
+use mathlib.Core.Path.{_≡_}
 use native.Mathlib.Omega.{arith}
 use lib.ListN.{length}
 use Rattle.sheet.specs.Tabulate.{copiedAt}

@@ -1,7 +1,7 @@
 -- Each turn makes the numbers of one more place.
 use borrow.Author.Needs.{needs}
-use Prim.Native.Nat.{_+_, _-_, _*_, _≤_}
-use mathlib.Core.Path.{_≡_, sym}
+use Prim.Native.Nat.{_-_, _≤_}
+use mathlib.Core.Path.{_≡_}
 use native.Mathlib.Omega.{arith}
 use Rattle.convolve_matrix.specs.inner.Rows.{Widened}
 use Rattle.convolve_matrix.proofs.Edging.{placed}

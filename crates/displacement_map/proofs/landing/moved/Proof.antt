@@ -1,8 +1,7 @@
 -- The steps decide whether the pixel lies on the sheet, and where.
 use borrow.Author.Needs.{needs}
-use Prim.Native.Nat.{ℕ, _+_, _-_, _*_, _<_}
-use mathlib.Core.Path.{_≡_, sym, _∙_}
-use mir.Val.{Fits}
+use Prim.Native.Nat.{_-_}
+use mathlib.Core.Path.{_≡_, _∙_}
 use Rattle.floats.specs.Round.{roundTo}
 use Rattle.displacement_map.proofs.OnSheet.{moved-in, moved-past, moved-below, pixel-inside, no-channel, index-few, pixelOf}
 use Rattle.displacement_map.proofs.landing.moved.Statement.{statement}

@@ -1,8 +1,8 @@
 -- Each turn stores one pixel, whose bytes are the definition's, and goes on to the next.
 use borrow.Author.Needs.{needs}
 use Prim.Native.Nat.{ℕ, _+_, _-_, _*_, _%_, _≤_, _<_}
-use mathlib.Core.Path.{_≡_, refl, sym, ap, _∙_, subst}
-use native.Mathlib.Nat.{mul-assoc, add-zero, lt-of-lt-of-le}
+use mathlib.Core.Path.{_≡_, sym, subst}
+use native.Mathlib.Nat.{mul-assoc, lt-of-lt-of-le}
 use native.Mathlib.Omega.{arith}
 use mathlib.Core.List.{List}
 use lib.ListN.{length}

@@ -6,7 +6,7 @@ use native.Mathlib.Omega.{arith}
 use lib.Dec.{le→leb}
 use lib.IntN.{pos}
 use lib.ListN.{getD}
-use lib.Ieee.{Float, nan, binary32, ofInt, inFloat}
+use lib.Ieee.{nan, binary32, ofInt, inFloat}
 use denote.Ref.{now}
 use Rattle.floats.specs.Operators.{_⊕_}
 use Rattle.sheet.specs.Size.{sideLimit}

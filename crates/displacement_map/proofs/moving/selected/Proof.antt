@@ -1,9 +1,6 @@
 -- Each selector takes its own channel.
 use borrow.Author.Needs.{needs}
-use mathlib.Core.Path.{sym, ap, _∙_}
 use Rattle.sheet.specs.Pixel.{channel}
-use Rattle.displacement_map.specs.declared.ColorChannel.{ColorChannel}
-use Rattle.displacement_map.specs.DisplacementMap.{channelNumber}
 use Rattle.displacement_map.proofs.moving.selected.Statement.{statement}
 use Rattle.displacement_map.proofs.moving.selected.Tie as tie
 

@@ -100,7 +100,9 @@ slot-reaches-returns-2 : (t : ℕ) → slot-reaches-lts.Need-returns-2 (
   slot-reaches.Post,
 ) (slot-reaches-at t) slot-reaches.Post
 slot-reaches-returns-2 t c =
-    let back = reaches-back _ _ _ (c .before .before .before .before .before .before .if1 .left) (c .before .before .before .before .before .origins .ensures) (c .before .before .before .inputs2 .given .1) in
+    let the-if1 = c .before .before .before .before .before .before .if1 in
+    let the-origins = c .before .before .before .before .before .origins in
+    let back = reaches-back _ _ _ (the-if1 .left) (the-origins .ensures) (c .before .before .before .inputs2 .given .1) in
     back (rw (sym (c .before .slot-reaches2 .ensures) ∙ c .if2 .taken))
 
 slot-reaches-slot-reaches-requires-3 : (t : ℕ) → slot-reaches-lts.Need-slot-reaches-requires-3 (
@@ -125,7 +127,9 @@ slot-reaches-returns-4 : (t : ℕ) → slot-reaches-lts.Need-returns-4 (
   slot-reaches-below t,
   slot-reaches.Post,
 ) (slot-reaches-at t) slot-reaches.Post
-slot-reaches-returns-4 t c = reaches-back _ _ _ (c .before .before .before .before .before .if1 .left) (c .before .before .before .before .origins .ensures) (c .before .before .inputs .given .1) (c .slot-reaches .ensures)
+slot-reaches-returns-4 t c =
+    let the-if1 = c .before .before .before .before .before .if1 in
+    reaches-back _ _ _ (the-if1 .left) (c .before .before .before .before .origins .ensures) (c .before .before .inputs .given .1) (c .slot-reaches .ensures)
 
 slot-reaches-returns-5 : (t : ℕ) → slot-reaches-lts.Need-returns-5 (
   origins-reads.Asked,
@@ -134,7 +138,9 @@ slot-reaches-returns-5 : (t : ℕ) → slot-reaches-lts.Need-returns-5 (
   slot-reaches.Post,
 ) (slot-reaches-at t) slot-reaches.Post
 slot-reaches-returns-5 t c =
-    let back = reaches-back _ _ _ (c .before .before .before .before .before .before .before .if1 .left) (c .before .before .before .before .before .before .origins .ensures) (c .before .before .before .before .inputs2 .given .1) in
+    let the-if1 = c .before .before .before .before .before .before .before .if1 in
+    let the-origins = c .before .before .before .before .before .before .origins in
+    let back = reaches-back _ _ _ (the-if1 .left) (the-origins .ensures) (c .before .before .before .before .inputs2 .given .1) in
     back (rw (sym (c .before .before .slot-reaches2 .ensures) ∙ c .before .if2 .left) (c .slot-reaches3 .ensures))
 
 pub +slot-reaches-spec : {M : Type 1} → statement M

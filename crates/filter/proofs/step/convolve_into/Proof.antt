@@ -26,8 +26,9 @@ unfolding answer
 returns c =
     let a = c .before .before .before .before .before .before .before .before .before .before .before .before .before .before .before .args in
     let pre = c .before .before .before .before .before .before .before .before .before .before .before .before .before .before .before .pre in
+    let the-copy = c .before .before .before .before .before .before .before .before .before .copy in
     let rest = length (a .scratch .now) ∷ [] in
-    let copied = c .before .before .before .before .before .before .before .before .before .copy .ensures ∙ copied-whole (a .size .width) (a .size .height) (a .src .now) (a .out .now) rest (pre .0) in
+    let copied = the-copy .ensures ∙ copied-whole (a .size .width) (a .size .height) (a .src .now) (a .out .now) rest (pre .0) in
     holds-new (c .before .before .before .before .apply .ensures .0 .held) (passed (copy-fits (a .size .width) (a .size .height) (a .src .now) (a .out .now) rest (pre .0) copied) (pre .1)) ∙ ap (convolved (a .matrix) (a .pool .now) (a .size .width) (a .size .height)) copied
 
 pub convolve-into-spec : {M : Type 1} → statement M

@@ -12,7 +12,9 @@ copy-requires : tie.Need-copy-requires
 copy-requires c κs = search needs
 
 spread-rows-requires : tie.Need-spread-rows-requires
-spread-rows-requires c κs = let pre = c .before .before .before .before .before .before .before .before .before .pre in ((pre .0 .0, pre .0 .1), (pre .1 .0, c .before .before .before .before .copy .ensures ∙ copied-all _ _ (pre .1 .0 ∙ sym (pre .1 .1))))
+spread-rows-requires c κs =
+    let the-pre = c .before .before .before .before .before .before .before .before .before .pre in
+    let pre = the-pre in ((pre .0 .0, pre .0 .1), (pre .1 .0, c .before .before .before .before .copy .ensures ∙ copied-all _ _ (pre .1 .0 ∙ sym (pre .1 .1))))
 
 copy-requires-2 : tie.Need-copy-requires-2
 copy-requires-2 c κs = search needs

@@ -104,7 +104,9 @@ put-decimal-slice-write-out-2 : (t : ℕ) → put-decimal-lts.Need-slice-write-o
   put-decimal-below t,
   put-decimal.Post,
 ) (put-decimal-at t) put-decimal.Post
-put-decimal-slice-write-out-2 t c = let e = c .before .before .before .put-decimal .ensures .ends in let z = decimal-short (c .before .before .before .before .before .before .before .before .args .places - 1) (c .before .before .before .before .before .before .before .before .args .n / 10) in let l = put-length (c .before .before .before .put-decimal .ensures) in search needs
+put-decimal-slice-write-out-2 t c =
+    let the-args = c .before .before .before .before .before .before .before .before .args in
+    let e = c .before .before .before .put-decimal .ensures .ends in let z = decimal-short (the-args .places - 1) (the-args .n / 10) in let l = put-length (c .before .before .before .put-decimal .ensures) in search needs
 
 put-decimal-add-result-2 : (t : ℕ) → put-decimal-lts.Need-add-result-2 (
   digit-reads.Asked,
@@ -112,7 +114,9 @@ put-decimal-add-result-2 : (t : ℕ) → put-decimal-lts.Need-add-result-2 (
   put-decimal-below t,
   put-decimal.Post,
 ) (put-decimal-at t) put-decimal.Post
-put-decimal-add-result-2 t c = let e = c .before .before .before .put-decimal .ensures .ends in let z = decimal-short (c .before .before .before .before .before .before .before .before .args .places - 1) (c .before .before .before .before .before .before .before .before .args .n / 10) in let l = put-length (c .before .before .before .put-decimal .ensures) in search needs
+put-decimal-add-result-2 t c =
+    let the-args = c .before .before .before .before .before .before .before .before .args in
+    let e = c .before .before .before .put-decimal .ensures .ends in let z = decimal-short (the-args .places - 1) (the-args .n / 10) in let l = put-length (c .before .before .before .put-decimal .ensures) in search needs
 
 put-decimal-same-length-2 : (t : ℕ) → put-decimal-lts.Need-same-length-2 (
   digit-reads.Asked,
@@ -128,7 +132,10 @@ put-decimal-returns-3 : (t : ℕ) → put-decimal-lts.Need-returns-3 (
   put-decimal-below t,
   put-decimal.Post,
 ) (put-decimal-at t) put-decimal.Post
-put-decimal-returns-3 t c = rw (decimal-more _ _ (c .before .before .before .before .before .before .if1 .left) (c .before .before .before .before .before .if2 .left), c .digit2 .ensures) (put-one _ (c .before .before .before .put-decimal .ensures))
+put-decimal-returns-3 t c =
+    let the-if1 = c .before .before .before .before .before .before .if1 in
+    let the-if2 = c .before .before .before .before .before .if2 in
+    rw (decimal-more _ _ (the-if1 .left) (the-if2 .left), c .digit2 .ensures) (put-one _ (c .before .before .before .put-decimal .ensures))
 
 pub +put-decimal-spec : {M : Type 1} → statement M
 +put-decimal-spec = close μ-put-decimal λ t. put-decimal-lts.spec (

@@ -1,5 +1,7 @@
 -- By the cases of the work, from what the slots that are read hold.
 use borrow.Author.Needs.{needs}
+use mathlib.Core.Path.{ap, _∙_}
+use Rattle.recipe.specs.Contents.{ofStraight, ofPremultiplied, ofEither}
 use Rattle.recipe.proofs.contents.work_makes.Statement.{statement}
 use Rattle.recipe.proofs.contents.work_makes.Tie as tie
 
@@ -88,16 +90,18 @@ of-either-requires-2 : tie.Need-of-either-requires-2
 of-either-requires-2 c κs = search needs
 
 returns : tie.Need-returns
-returns c = rw (c .before .before .before .work .given .1) (cc (c .of-premultiplied .ensures, c .before .content-in .ensures))
+returns c = rw (c .before .before .before .work .given .1) (c .of-premultiplied .ensures ∙ ap (λ x. ofPremultiplied x _) (c .before .content-in .ensures))
 
 returns-2 : tie.Need-returns-2
-returns-2 c = rw (c .before .before .before .before .before .work2 .given .1) (cc (c .of-premultiplied3 .ensures, c .before .of-premultiplied2 .ensures, c .before .before .before .content-in2 .ensures, c .before .before .content-in3 .ensures))
+returns-2 c =
+    let the-work2 = c .before .before .before .before .before .work2 in
+    rw (the-work2 .given .1) (cc (c .of-premultiplied3 .ensures, c .before .of-premultiplied2 .ensures, c .before .before .before .content-in2 .ensures, c .before .before .content-in3 .ensures))
 
 returns-3 : tie.Need-returns-3
-returns-3 c = rw (c .before .before .before .work3 .given .1) (cc (c .of-straight .ensures, c .before .content-in4 .ensures))
+returns-3 c = rw (c .before .before .before .work3 .given .1) (c .of-straight .ensures ∙ ap (λ x. ofStraight x _) (c .before .content-in4 .ensures))
 
 returns-4 : tie.Need-returns-4
-returns-4 c = rw (c .before .before .before .work4 .given .1) (cc (c .of-straight2 .ensures, c .before .content-in5 .ensures))
+returns-4 c = rw (c .before .before .before .work4 .given .1) (c .of-straight2 .ensures ∙ ap (λ x. ofStraight x _) (c .before .content-in5 .ensures))
 
 returns-5 : tie.Need-returns-5
 returns-5 c = rw (c .before .before .before .work5 .given .1) (cc (c .convolved .ensures, c .before .content-in6 .ensures))
@@ -109,10 +113,10 @@ returns-7 : tie.Need-returns-7
 returns-7 c = rw (c .enum-told .given .1)
 
 returns-8 : tie.Need-returns-8
-returns-8 c = rw (c .before .before .before .work7 .given .1) (cc (c .of-either .ensures, c .before .content-in9 .ensures))
+returns-8 c = rw (c .before .before .before .work7 .given .1) (c .of-either .ensures ∙ ap (λ x. ofEither x _) (c .before .content-in9 .ensures))
 
 returns-9 : tie.Need-returns-9
-returns-9 c = rw (c .before .before .before .work8 .given .1) (cc (c .of-either2 .ensures, c .before .content-in10 .ensures))
+returns-9 c = rw (c .before .before .before .work8 .given .1) (c .of-either2 .ensures ∙ ap (λ x. ofEither x _) (c .before .content-in10 .ensures))
 
 pub work-makes-spec : {M : Type 1} → statement M
 work-makes-spec =

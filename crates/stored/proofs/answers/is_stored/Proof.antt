@@ -1,7 +1,6 @@
 -- Both numbers are compared as defined. Assumes nothing.
 use borrow.Author.Needs.{needs}
 use Rattle.stored.proofs.Same.{differs, agrees}
-use mathlib.Core.Path.{refl}
 use Rattle.stored.proofs.answers.is_stored.Statement.{statement}
 use Rattle.stored.proofs.answers.is_stored.Tie as tie
 

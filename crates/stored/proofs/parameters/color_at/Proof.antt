@@ -28,7 +28,9 @@ byte-requires-3 : tie.Need-byte-requires-3
 byte-requires-3 c κs = search needs
 
 returns : tie.Need-returns
-returns c = rw (c .before .before .before .before .byte .ensures, c .before .before .byte2 .ensures, c .byte3 .ensures, c .before .before .before .before .before .nth-word .ensures, c .before .before .before .nth-word2 .ensures, c .before .nth-word3 .ensures)
+returns c =
+    let the-nth-word = c .before .before .before .before .before .nth-word in
+    rw (c .before .before .before .before .byte .ensures, c .before .before .byte2 .ensures, c .byte3 .ensures, the-nth-word .ensures, c .before .before .before .nth-word2 .ensures, c .before .nth-word3 .ensures)
 
 pub color-at-spec : {M : Type 1} → statement M
 color-at-spec =

@@ -52,8 +52,11 @@ nth-signed-requires c κs = search needs
 
 returns : tie.Need-returns
 returns c =
+    let the-nth-double = c .before .before .before .before .before .before .before .nth-double in
+    let the-nth-double2 = c .before .before .before .before .before .before .nth-double2 in
+    let the-nth-double3 = c .before .before .before .before .before .nth-double3 in
     let seed = c .nth-signed in
-    rw (toZ-ofZ w32 (seed .result) (record { sfits = seed .ok }), c .before .before .before .before .before .before .before .nth-double .ensures, c .before .before .before .before .before .before .nth-double2 .ensures, c .before .before .before .before .before .nth-double3 .ensures, c .before .before .before .before .nth-double4 .ensures, c .before .before .before .nth-double5 .ensures, c .before .before .nth-double6 .ensures, c .before .nth-word .ensures, c .nth-signed .ensures)
+    rw (toZ-ofZ w32 (seed .result) (record { sfits = seed .ok }), the-nth-double .ensures, the-nth-double2 .ensures, the-nth-double3 .ensures, c .before .before .before .before .nth-double4 .ensures, c .before .before .before .nth-double5 .ensures, c .before .before .nth-double6 .ensures, c .before .nth-word .ensures, c .nth-signed .ensures)
 
 pub turbulence-at-spec : {M : Type 1} → statement M
 turbulence-at-spec =
