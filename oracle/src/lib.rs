@@ -14,6 +14,7 @@ pub mod lend;
 pub mod nasty;
 pub mod ours;
 pub mod patterns;
+pub mod places;
 pub mod primitives;
 pub mod recipe;
 pub mod rng;

@@ -6,7 +6,7 @@ use std::{env, fs};
 
 use oracle::compare::Wanted;
 use oracle::primitives::ALL;
-use oracle::{bench, compare, floats, patterns, recipe, stored, unproved};
+use oracle::{bench, compare, floats, patterns, places, recipe, stored, unproved};
 
 const HELP: &str = "\
 usage: oracle COMMAND
@@ -19,6 +19,7 @@ usage: oracle COMMAND
   patterns [NAME] [--one-in N]    compare the float leaves: those of an f32 over all 2^32 patterns, those
                                   of an f64 over every boundary and drawn ones, 100,663,296 each; or
                                   over one block of 2^20 in N (N up to 4,096)
+  places [--calls N]              call displacement_map.rs N times (10,000,000): no pixel comes from beyond its reach
   bench [--slow]                  measure the library beside the Rust, as a Markdown table;
                                   --slow: morphology at radius 40 too
   unproved                        print the C functions over those of an unproved program, for ./edits
@@ -41,6 +42,11 @@ fn main() -> ExitCode {
         ["patterns", ref rest @ ..] => match blocks(rest) {
             Some((name, part)) => status(patterns::run(name, part)),
             None => wrong(),
+        },
+        ["places"] => status(places::run(10_000_000, compare::SEED)),
+        ["places", "--calls", calls] => match calls.parse() {
+            Ok(calls) => status(places::run(calls, compare::SEED)),
+            Err(_) => wrong(),
         },
         ["bench"] => bench::run(false),
         ["bench", "--slow"] => bench::run(true),
