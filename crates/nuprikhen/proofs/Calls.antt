@@ -41,9 +41,6 @@ module _ {A : Type 0} {answer : Answer} {new : List A} {s lent : Lent A} (w : wa
   pub filtered-called : {r : Answer} {c : «nup_answer»} → Filtered answer r new s → Told r c → Called answer c new lent
   filtered-called f t = record { told = told-as (f .answered) t; held = holds-as refl refl (f .held) }
 
-  pub called-on : {c : «nup_answer»} → Called answer c new s → Called answer c new lent
-  called-on f = record { told = f .told; held = holds-as refl refl (f .held) }
-
 -- two lengths that pass are equal
 pub pair-same : {a b : ℕ} {r : Answer} → r ≡ lengthsAnswer a (b ∷ []) → r ≡ Done → a ≡ b
 unfolding lengthsAnswer
