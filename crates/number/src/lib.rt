@@ -1,6 +1,14 @@
 // Numbers of a message: groups of seven bits, lowest first, in the shortest form, below 2^32.
 mod groups;
+mod values;
 
+pub use values::bits_of;
+pub use values::bits_of_seed;
+pub use values::double_of;
+pub use values::float_of;
+pub use values::high_half;
+pub use values::low_half;
+pub use values::seed_of;
 ghost use mathlib.Core.Path.{_≡_};
 ghost use Prim.Native.Nat.{_+_, _≤_};
 ghost use Rattle.sheet.specs.Contract.{was, became};
