@@ -2,13 +2,13 @@
 use Prim.Native.Nat.{ℕ, zero, suc, _+_, _-_, _*_, _/_, _%_, _≤_, _<_}
 use mathlib.Core.Path.{_≡_, refl, sym, ap, _∙_}
 use mathlib.Core.Bool.{Bool, true, false, cond}
-use mathlib.Core.List.{List, [], _∷_, _++_}
+use mathlib.Core.List.{List, [], _∷_}
 use native.Mathlib.Omega.{arith}
 use native.Mathlib.Numerals.{add-one}
-use borrow.Author.Tests.{ltb-true, ltb-false, eqb-false, eq-eqb, ne-eqb, lt-ltb, le-ltb}
+use borrow.Author.Tests.{eqb-false, eq-eqb, ne-eqb, lt-ltb, le-ltb}
 use lib.Dec.{eqb, ltb}
-use lib.ListN.{length, drop, getD, set, length-append, drop-of-length-le}
-use lib.Seq.{drop-cons, getD-drop, sets, length-sets}
+use lib.ListN.{length, drop, getD, set, drop-of-length-le}
+use lib.Seq.{drop-cons, getD-drop, length-sets}
 use types.Run.{OneOf}
 use denote.Enum.Declared.{tagOf}
 use Rattle.number.specs.declared.Number.{Number}
@@ -16,7 +16,10 @@ use Rattle.number.specs.declared.Number.the-variants.{Value, Wrong}
 use Rattle.number.specs.Number.{groups, numberBytes, Found, found, none, below, groupsIn, placed, groupsAt, Put}
 use Rattle.number.specs.inner.Limit.{limit}
 use Rattle.number.proofs.Number.{the-type}
-use Rattle.number.proofs.Numbers.{Bytes, Written, written}
+use Rattle.number.proofs.Numbers.{Bytes, written}
+
+pub no-value : {A : Type 0} {n e p : ℕ} → Wrong p ≡ Value n e → A
+no-value e = let z : _≡_ {A = ℕ} 0 1 = cc in absurd (eqb-false 0 1 refl z)
 
 -- ---- reading
 -- a group with others above it, in places
@@ -81,7 +84,7 @@ limit-mono (suc (suc (suc zero))) h = omega arith
 limit-mono (suc (suc (suc (suc m)))) h = absurd (omega arith)
 
 value-of : (more : ℕ) (l : List ℕ) → Bytes l → (at n end : ℕ) (f : Found) → groupsIn more l ≡ f → Value n end ≡ placed at f → n < limit more
-value-of more l u at n end none g e = let z : _≡_ {A = ℕ} 0 1 = cc in absurd (eqb-false 0 1 refl z)
+value-of more l u at n end none g e = no-value (sym e)
 value-of more l u at n end (found m k) g e = let y : n ≡ m = cc in rw y (written more l u m k g .small)
 
 pub small-number : (s : List ℕ) → Bytes s → (at more n end : ℕ) → more ≤ 3 → Value n end ≡ groupsAt more s at → n < 33554432

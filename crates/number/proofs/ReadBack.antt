@@ -1,15 +1,13 @@
 -- A number that is written is read back, and what is read is the number's one form.
-use Prim.Native.Nat.{ℕ, zero, suc, _+_, _-_, _*_, _≤_, _<_}
-use mathlib.Core.Path.{_≡_, refl, sym, ap, _∙_}
-use mathlib.Core.List.{List, [], _∷_, _++_}
-use native.Mathlib.Omega.{arith}
-use borrow.Author.Tests.{eqb-false}
-use lib.ListN.{length, drop, getD}
-use lib.Seq.{drop-drop, drop-append-seam, getD-drop}
-use Rattle.number.specs.declared.Number.{Number}
-use Rattle.number.specs.declared.Number.the-variants.{Value, Wrong}
-use Rattle.number.specs.Number.{groups, numberBytes, Found, found, none, groupsIn, placed, groupsAt, numberAt}
-use Rattle.number.proofs.Numbers.{Bytes, Written, written, groups-back}
+use Prim.Native.Nat.{ℕ, _+_, _<_}
+use mathlib.Core.Path.{_≡_, refl, ap, _∙_}
+use mathlib.Core.List.{List, _++_}
+use lib.ListN.{length, drop}
+use lib.Seq.{drop-drop, getD-drop}
+use Rattle.number.specs.declared.Number.the-variants.{Value}
+use Rattle.number.specs.Number.{numberBytes, Found, found, none, groupsIn, placed, groupsAt, numberAt}
+use Rattle.number.proofs.Numbers.{Bytes, written, groups-back}
+use Rattle.number.proofs.Places.{no-value}
 
 pub number-back : (s : List ℕ) (at n : ℕ) (r : List ℕ) → n < 4294967296 → drop at s ≡ numberBytes n ++ r → numberAt s at ≡ Value n (at + length (numberBytes n))
 unfolding groupsAt
@@ -25,7 +23,7 @@ unfolding groupsAt
 number-form s u at n end e = by (groupsIn 4 (drop at s)) refl e
   where
     by : (f : Found) → groupsIn 4 (drop at s) ≡ f → placed at f ≡ Value n end → IsNumber s at n end
-    by none g i = let z : _≡_ {A = ℕ} 0 1 = cc in absurd (eqb-false 0 1 refl z)
+    by none g i = no-value i
     by (found m k) g i =
         let x : m ≡ n = cc in
         let y : at + k ≡ end = cc in
