@@ -1,5 +1,6 @@
 // Numbers of a message: groups of seven bits, lowest first, in the shortest form, below 2^32.
 mod groups;
+pub mod reader;
 mod values;
 
 pub use values::bits_of;
