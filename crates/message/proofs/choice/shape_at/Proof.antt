@@ -1,0 +1,51 @@
+-- A list, or a row of floats.
+use Rattle.message.proofs.Choosing.{list-shape, floats-shape}
+use borrow.Author.Needs.{needs}
+use Rattle.message.proofs.choice.shape_at.Statement.{statement}
+use Rattle.message.proofs.choice.shape_at.Tie as tie
+use Rattle.message.proofs.choice.shape_at.Reads as reads
+use Rattle.message.proofs.choice.shape_at.Lts as lts
+use Rattle.message.proofs.block.block_at.Reads as block-at-reads
+use Rattle.message.proofs.lists.numbers_at.Reads as numbers-at-reads
+use Rattle.number.proofs.float_of.Reads as float-of-reads
+
+numbers-at-requires : tie.Need-numbers-at-requires
+numbers-at-requires c κs = search needs
+
+same-length : tie.Need-same-length
+same-length c = search needs
+
+returns : tie.Need-returns
+returns c = list-shape _ _ _ _ (c .before .before .before .numbers-at .ensures) _ _ _ (c .before .before .before .before .before .if1 .taken)
+
+block-at-requires : tie.Need-block-at-requires
+block-at-requires c κs = search needs
+
+array-read-float-of : tie.Need-array-read-float-of
+array-read-float-of c = search needs
+
+float-of-requires : tie.Need-float-of-requires
+float-of-requires c κs = search needs
+
+array-read-float-of-2 : tie.Need-array-read-float-of-2
+array-read-float-of-2 c = search needs
+
+float-of-requires-2 : tie.Need-float-of-requires-2
+float-of-requires-2 c κs = search needs
+
+returns-2 : tie.Need-returns-2
+returns-2 c = rw (c .before .float-of .ensures, c .float-of2 .ensures) (floats-shape _ _ _ _ _ (c .before .before .before .block-at .result) (c .before .before .before .before .before .before .before .pre .0) _ _ (c .before .before .before .before .before .before .before .pre .1) (c .before .before .before .before .if1 .left) (c .before .before .before .block-at .ensures))
+
+pub shape-at-spec : {M : Type 1} → statement M
+shape-at-spec =
+    tie.close
+    (tie.spec
+    numbers-at-requires
+    same-length
+    returns
+    block-at-requires
+    array-read-float-of
+    float-of-requires
+    array-read-float-of-2
+    float-of-requires-2
+    returns-2)

@@ -1,0 +1,49 @@
+-- The numbers are what the calls gave.
+use borrow.Author.Needs.{needs}
+use Rattle.message.proofs.row.diffuse_lighting.Statement.{statement}
+use Rattle.message.proofs.row.diffuse_lighting.Tie as tie
+
+light-of-requires : tie.Need-light-of-requires
+light-of-requires c κs = search needs
+
+bits-of-requires : tie.Need-bits-of-requires
+bits-of-requires c κs = search needs
+
+bits-of-requires-2 : tie.Need-bits-of-requires-2
+bits-of-requires-2 c κs = search needs
+
+wide-requires : tie.Need-wide-requires
+wide-requires c κs = search needs
+
+wide-requires-2 : tie.Need-wide-requires-2
+wide-requires-2 c κs = search needs
+
+wide-requires-3 : tie.Need-wide-requires-3
+wide-requires-3 c κs = search needs
+
+bits-of-requires-3 : tie.Need-bits-of-requires-3
+bits-of-requires-3 c κs = search needs
+
+bits-of-requires-4 : tie.Need-bits-of-requires-4
+bits-of-requires-4 c κs = search needs
+
+bits-of-requires-5 : tie.Need-bits-of-requires-5
+bits-of-requires-5 c κs = search needs
+
+returns : tie.Need-returns
+returns c = record { few = search needs; held = cc }
+
+pub diffuse-lighting-spec : {M : Type 1} → statement M
+diffuse-lighting-spec =
+    tie.close
+    (tie.spec
+    light-of-requires
+    bits-of-requires
+    bits-of-requires-2
+    wide-requires
+    wide-requires-2
+    wide-requires-3
+    bits-of-requires-3
+    bits-of-requires-4
+    bits-of-requires-5
+    returns)
