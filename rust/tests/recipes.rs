@@ -66,6 +66,53 @@ fn every_step() -> Vec<Recipe> {
     ]
 }
 
+/// The example of each step of docs/MESSAGES.md: the hex before two spaces of the indented lines below a heading.
+fn documented() -> Vec<Vec<u8>> {
+    let document = include_str!("../../docs/MESSAGES.md");
+    let bytes = |line: &str| -> Option<Vec<u8>> {
+        let (hex, _) = line.strip_prefix("    ")?.split_once("  ")?;
+        let bytes = hex.split(' ').map(|two| u8::from_str_radix(two, 16));
+        bytes.collect::<Result<_, _>>().ok()
+    };
+    let examples = document.split("\n### ").skip(1);
+    examples
+        .map(|example| example.lines().filter_map(bytes).flatten().collect())
+        .collect()
+}
+
+#[test]
+fn the_documents_examples() {
+    let table = TransferFunction::Table(&[1.0, 0.0]);
+    let discrete = TransferFunction::Discrete(&[0.5]);
+    let linear = TransferFunction::Linear {
+        slope: 2.0,
+        intercept: -1.0,
+    };
+    let kernel = ConvolveMatrix {
+        target_x: 1,
+        divisor: 4.0,
+        edge_mode: EdgeMode::Duplicate,
+        ..row(&[1.0, 3.0], false)
+    };
+    let (r, a) = (ColorChannel::R, ColorChannel::A);
+    let color = |red, green, blue| Color { red, green, blue };
+    let direction = LightSource::Distant(0.6, 0.0, 0.8);
+    let place = LightSource::Point(40.0, 30.0, 90.0);
+    let new = Recipe::new;
+    let recipes = [
+        new().morphology(0, 1, MorphologyOperator::Dilate, 1.0, 0.0),
+        new().color_matrix(0, 2, &ColorMatrix::Saturate(0.5)),
+        new().component_transfer(0, 1, &table, &discrete, &linear, &IDENTITY),
+        new().arithmetic(0, 1, 2, 0.0, 1.0, -1.0, 0.0),
+        new().convolve_matrix(0, 1, &kernel),
+        new().displacement_map(0, 1, 2, r, a, 1.0, 1.0, 20.0),
+        new().turbulence(1, 0.0, 0.0, 1.0, 1.0, 0.05, 0.5, 3, -5, true),
+        new().diffuse_lighting(0, 1, direction, 5.0, 1.0, color(255, 240, 200)),
+        new().specular_lighting(0, 1, place, 2.0, 0.5, 1.0, color(0, 0, 255)),
+    ];
+    assert_eq!(recipes.map(|recipe| recipe.to_bytes()), documented()[..]);
+}
+
 #[test]
 fn every_step_comes_back() {
     for recipe in every_step() {
