@@ -147,8 +147,11 @@ fn the_package_has_the_headers_functions() {
     assert!(found.is_empty(), "{}", found.join("\n"));
 }
 
+/// The fields of an answer with their types in Rust.
+type Fields = &'static [(&'static str, &'static str)];
+
 /// The answers: their names in C and Rattle and in Rust, and their fields.
-const ANSWERS: [(&str, &str, &[(&str, &str)]); 3] = [
+const ANSWERS: [(&str, &str, Fields); 3] = [
     ("nup_answer", "Answer", &[BYTES[0], BYTES[1]]),
     (
         "nup_run_answer",

@@ -63,7 +63,8 @@ fn check(call: &Call, expected: &Expected) -> Result<(), String> {
         ));
     }
     compare_sheets(&lent, &expected.sheets).map_err(|what| format!("nup_run: {what}"))?;
-    compare_sheets(&[message], &[call.message.clone()]).map_err(|what| format!("message: {what}"))
+    compare_sheets(&[message], std::slice::from_ref(&call.message))
+        .map_err(|what| format!("message: {what}"))
 }
 
 /// nup_run on slots 0 to 3 and scratch.
@@ -143,7 +144,7 @@ fn shown(call: Call, what: String) -> String {
 }
 
 impl Shrinks for Call {
-    /// One step less, a byte less, or simpler sheets.
+    /// One step less, one of the last bytes less, or simpler sheets.
     fn simpler(&self) -> impl Iterator<Item = Call> {
         let with = |message: Vec<u8>| Call {
             message,
@@ -153,7 +154,7 @@ impl Shrinks for Call {
             lent,
             ..self.clone()
         });
-        let bytes = (0..self.message.len()).rev().map(|at| {
+        let bytes = (0..self.message.len()).rev().take(256).map(|at| {
             let mut message = self.message.clone();
             message.remove(at);
             message

@@ -119,7 +119,7 @@ pub struct Recipe {
 pub const SCRATCH: usize = 4;
 
 impl Work {
-    fn primitive(&self) -> &'static Primitive {
+    pub fn primitive(&self) -> &'static Primitive {
         let name = match self {
             Work::Morphology(..) => "morphology",
             Work::Arithmetic(_) => "composite",
@@ -280,7 +280,7 @@ impl Recipe {
     }
 
     /// A step's work as a single call with no sheets yet.
-    fn call(&self, work: &Work) -> Option<Case> {
+    pub fn call(&self, work: &Work) -> Option<Case> {
         Some(Case {
             width: self.width,
             height: self.height,
