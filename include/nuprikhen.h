@@ -19,7 +19,16 @@
  *   4  a parameter is NaN or infinite
  *   5  a finite parameter is outside its range, or a number names no case
  *
- * Numbers 6 to 8 refuse recipes, which single calls are not.
+ * A recipe (nup_run, nup_reaches) has these too; there 3, 4, 5, 7 and 8 come
+ * with the index of the step that is refused:
+ *
+ *   6  0 steps or over 16
+ *   7  a slot outside 0..3, output slot 0, an output that is an input, or an
+ *      input that is not slot 0 and that no earlier step wrote
+ *   8  an input is of the wrong kind
+ *  10  the message has a wrong number: the bytes end early, it is not in its
+ *      shortest form or too large, an unknown code, or bytes are left over
+ *  11  the message holds over 16,384 numbers of matrices, tables and kernels
  */
 #ifndef NUPRIKHEN_H
 #define NUPRIKHEN_H
@@ -205,6 +214,50 @@ nup_answer nup_copy(const uint8_t *src, size_t src_len,
 
 /* Every byte of dst becomes 0. Never refused. */
 nup_answer nup_clear(uint8_t *dst, size_t dst_len);
+
+/* The answer to a message. offset: for 10, where the wrong number begins, the
+   message's length where the bytes end just before it; otherwise 0. */
+typedef struct {
+    uint8_t number;
+    uint8_t step;
+    uint64_t offset;
+} nup_run_answer;
+
+/* kind of nup_run and nup_reaches */
+enum { NUP_STRAIGHT = 0, NUP_PREMULTIPLIED = 1 };
+
+/* Runs a recipe that is given as a message, in the form of docs/MESSAGES.md.
+   source is slot 0, of this kind; each step reads one or two slots, or none,
+   and writes slot 1, 2 or 3. The last step's output is the result. Afterwards
+   each written slot holds its last step's output, the others are unchanged,
+   and scratch is all zero. What lies in slots 1 to 3 before is never read.
+   Refused: 10, then 6 over 16 steps, then 11; 5 for another kind; then 1, 2,
+   6 of 0 steps, and step by step 7, 8, 3, 4, 5. */
+nup_run_answer nup_run(const uint8_t *message, size_t message_len,
+                       uint8_t kind, uint32_t width, uint32_t height,
+                       const uint8_t *source, size_t source_len,
+                       uint8_t *slot1, size_t slot1_len,
+                       uint8_t *slot2, size_t slot2_len,
+                       uint8_t *slot3, size_t slot3_len,
+                       uint8_t *scratch, size_t scratch_len);
+
+/* As nup_run_answer; reaches is 1 or 0. */
+typedef struct {
+    uint8_t number;
+    uint8_t step;
+    uint8_t reaches;
+    uint64_t offset;
+} nup_reach_answer;
+
+/* Whether some byte of the result draws on the source; 0 where it is refused,
+   as nup_run is. Nothing is written. */
+nup_reach_answer nup_reaches(const uint8_t *message, size_t message_len,
+                             uint8_t kind, uint32_t width, uint32_t height,
+                             const uint8_t *source, size_t source_len,
+                             const uint8_t *slot1, size_t slot1_len,
+                             const uint8_t *slot2, size_t slot2_len,
+                             const uint8_t *slot3, size_t slot3_len,
+                             const uint8_t *scratch, size_t scratch_len);
 
 #ifdef __cplusplus
 }

@@ -82,9 +82,10 @@ fn calls(functions: &[Function]) -> String {
         text += &format!("{} {}({params});\n", f.result, f.name);
         let reads: String = f.params.iter().map(read).collect();
         let given = joined(|p| p.name.clone());
-        cases += &format!("case {i}: {{\n{reads}return {}({given});\n}}\n", f.name);
+        let called = format!("of_{}({}({given}))", f.result, f.name);
+        cases += &format!("case {i}: {{\n{reads}return {called};\n}}\n");
     }
-    text + "static nup_answer call(void) {\nswitch (word()) {\n"
+    text + "static told call(void) {\nswitch (word()) {\n"
         + &cases
         + "default: for (;;) leave(1);\n}\n}\n"
 }

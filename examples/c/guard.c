@@ -1,8 +1,9 @@
 /* Calls every function of the header with each lent slice against a page
    without access, before it or behind it, for all sizes from 1 x 1 to
-   40 x 40; then makes calls that are refused, with every pointer into such a
-   page. A read or a write past a slice ends the program with a line that says
-   which call it was. See ./run. */
+   40 x 40; then makes calls that are refused, with every pointer but a
+   message's into such a page. A read or a write past a slice, or of anything
+   where a call is refused, ends the program with a line that says which call
+   it was. See ./run. */
 #define _DEFAULT_SOURCE
 #include <signal.h>
 #include <stdio.h>
@@ -11,7 +12,7 @@
 #include <unistd.h>
 #include "nuprikhen.h"
 
-enum { SIDE = 40, SLICES = 5, ROUNDS = 4, ROOM = 32 * SIDE * SIDE };
+enum { SIDE = 40, SLICES = 6, ROUNDS = 4, ROOM = 32 * SIDE * SIDE };
 
 /* A lent slice: where it starts, and its number of elements. */
 typedef struct {
@@ -22,8 +23,8 @@ typedef struct {
 #define LEND(s) (s).start, (s).length
 
 /* A function, with a letter for each slice that it is lent: s a sheet's bytes,
-   f as many numbers, d as many doubles, m a matrix, t a table, p a slope and an intercept. The
-   round varies its parameters. */
+   f as many numbers, d as many doubles, m a matrix, t a table, p a slope and an intercept, b a
+   message, which comes first. The round varies its parameters. */
 typedef struct {
     const char *name, *lent;
     int sized; /* whether it is given a width and a height */
@@ -102,6 +103,60 @@ static nup_answer specular_lighting(uint32_t w, uint32_t h, int round, const sli
                                  5, 1, 1, 255, 240, 200, LEND(s[0]), LEND(s[1]));
 }
 
+/* Recipes of all nine steps: a dilation and a convolution; a saturation and transfer functions; a
+   displacement by turbulence; a specular lighting, an arithmetic composition and a diffuse one. */
+static const uint8_t spread[] = {
+    0x02, 0x01, 0x00, 0x01, 0x00, 0x80, 0x80, 0x80, 0xFC, 0x03, 0x80, 0x80, 0x80, 0x81, 0x04, 0x05, 0x01, 0x02,
+    0x02, 0x01, 0x00, 0x00, 0x02, 0x80, 0x80, 0x80, 0xFC, 0x03, 0x80, 0x80, 0x80, 0xF8, 0x03, 0x80, 0x80, 0x80,
+    0xFE, 0x03, 0x00, 0x01, 0x00};
+static const uint8_t toned[] = {
+    0x02, 0x02, 0x00, 0x01, 0x01, 0x80, 0x80, 0x80, 0xF8, 0x03, 0x03, 0x01, 0x02, 0x01, 0x02, 0x00, 0x80, 0x80,
+    0x80, 0xFC, 0x03, 0x02, 0x01, 0x80, 0x80, 0x80, 0xF8, 0x03, 0x03, 0x80, 0x80, 0x80, 0xF8, 0x03, 0x00, 0x00};
+static const uint8_t moved[] = {
+    0x02, 0x07, 0x01, 0x00, 0x00, 0x00, 0x00, 0x00, 0x80, 0x80, 0xC0, 0xFF, 0x03, 0x00, 0x80, 0x80, 0xC0, 0xFF,
+    0x03, 0x9A, 0xB3, 0xE6, 0xCC, 0x09, 0x99, 0xB3, 0xA6, 0xFD, 0x03, 0x00, 0x80, 0x80, 0x80, 0xFF, 0x03, 0x02,
+    0x07, 0x01, 0x06, 0x00, 0x01, 0x03, 0x00, 0x01, 0x80, 0x80, 0x80, 0xFC, 0x03, 0x80, 0x80, 0x80, 0xFC, 0x03,
+    0x80, 0x80, 0x80, 0x8D, 0x04};
+static const uint8_t lit[] = {
+    0x03, 0x09, 0x00, 0x01, 0x80, 0x80, 0x80, 0x85, 0x04, 0x80, 0x80, 0x80, 0xFC, 0x03, 0x80, 0x80, 0x80, 0xFC,
+    0x03, 0xFF, 0x01, 0xF0, 0x01, 0xC8, 0x01, 0x00, 0x9A, 0xB3, 0xE6, 0xF8, 0x03, 0x00, 0xCD, 0x99, 0xB3, 0xFA,
+    0x03, 0x04, 0x00, 0x01, 0x02, 0x00, 0x80, 0x80, 0x80, 0xF8, 0x03, 0x80, 0x80, 0x80, 0xF8, 0x03, 0x00, 0x08,
+    0x02, 0x03, 0x80, 0x80, 0x80, 0x85, 0x04, 0x80, 0x80, 0x80, 0xFC, 0x03, 0xFF, 0x01, 0xF0, 0x01, 0xC8, 0x01,
+    0x01, 0x80, 0x80, 0x80, 0x82, 0x04, 0x80, 0x80, 0x80, 0x84, 0x04, 0x80, 0x80, 0xD0, 0x95, 0x04};
+
+/* A message, and the kind of its source, for each round. */
+static const struct {
+    const uint8_t *bytes;
+    size_t length;
+    uint8_t kind;
+} messages[ROUNDS] = {
+    {spread, sizeof spread, NUP_PREMULTIPLIED},
+    {toned, sizeof toned, NUP_STRAIGHT},
+    {moved, sizeof moved, NUP_STRAIGHT},
+    {lit, sizeof lit, NUP_PREMULTIPLIED},
+};
+
+static nup_run_answer run_answer(uint32_t w, uint32_t h, int round, const slice *s) {
+    return nup_run(LEND(s[0]), messages[round].kind, w, h, LEND(s[1]), LEND(s[2]), LEND(s[3]), LEND(s[4]), LEND(s[5]));
+}
+
+static nup_reach_answer reach_answer(uint32_t w, uint32_t h, int round, const slice *s) {
+    return nup_reaches(LEND(s[0]), messages[round].kind, w, h, LEND(s[1]), LEND(s[2]), LEND(s[3]), LEND(s[4]),
+                       LEND(s[5]));
+}
+
+static nup_answer run(uint32_t w, uint32_t h, int round, const slice *s) {
+    nup_run_answer answer = run_answer(w, h, round, s);
+    return (nup_answer){answer.number, answer.step};
+}
+
+/* Each of the messages reaches its source. */
+static nup_answer reaches(uint32_t w, uint32_t h, int round, const slice *s) {
+    nup_reach_answer answer = reach_answer(w, h, round, s);
+    if (answer.reaches != (answer.number == 0)) answer.step = 255;
+    return (nup_answer){answer.number, answer.step};
+}
+
 static nup_answer to_bytes(uint32_t w, uint32_t h, int round, const slice *s) {
     (void)w, (void)h, (void)round;
     return nup_to_bytes(LEND(s[0]), LEND(s[1]));
@@ -151,6 +206,8 @@ static const function functions[] = {
     {"nup_turbulence", "s", 1, turbulence},
     {"nup_diffuse_lighting", "ss", 1, diffuse_lighting},
     {"nup_specular_lighting", "ss", 1, specular_lighting},
+    {"nup_run", "bsssss", 1, run},
+    {"nup_reaches", "bsssss", 1, reaches},
     {"nup_to_bytes", "fs", 0, to_bytes},
     {"nup_round_to_i32s", "ff", 0, round_to_i32s},
     {"nup_sqrt32", "ff", 0, sqrt32},
@@ -164,6 +221,7 @@ static const function functions[] = {
 static const function *now;
 static uint32_t width, height;
 static unsigned sides;
+static size_t cut; /* the bytes that a message's end lacks */
 static int bad;
 static long calls;
 
@@ -194,8 +252,9 @@ static void make_area(void) {
         if (mprotect(area + page + (size_t)i * (room + page), room, PROT_READ | PROT_WRITE)) _exit(2);
 }
 
-static size_t elements(char letter) {
+static size_t elements(char letter, int round) {
     switch (letter) {
+    case 'b': return messages[round].length - cut;
     case 'm': return 20;
     case 't': return width;
     case 'p': return 2;
@@ -205,6 +264,7 @@ static size_t elements(char letter) {
 
 static size_t bytes_each(char letter) {
     switch (letter) {
+    case 'b':
     case 's': return 1;
     case 'd': return 8;
     default: return 4;
@@ -212,12 +272,13 @@ static size_t bytes_each(char letter) {
 }
 
 /* A slice against the page before its room, or the one behind it. */
-static slice against(int i, char letter, int behind) {
-    slice s = {area + page + (size_t)i * (room + page), elements(letter)};
+static slice against(int i, char letter, int behind, int round) {
+    slice s = {area + page + (size_t)i * (room + page), elements(letter, round)};
     if (behind) s.start = (uint8_t *)s.start + room - s.length * bytes_each(letter);
     for (size_t k = 0; k < s.length; k++) {
         float number = (float)(k % 9) / 8 - 0.25f;
         switch (letter) {
+        case 'b': ((uint8_t *)s.start)[k] = messages[round].bytes[k]; break;
         case 's': ((uint8_t *)s.start)[k] = (uint8_t)(37 * k + 11); break;
         case 'd': ((double *)s.start)[k] = number; break;
         default: ((float *)s.start)[k] = number;
@@ -226,23 +287,32 @@ static slice against(int i, char letter, int behind) {
     return s;
 }
 
+/* Whether these sides are tried: all, or of many slices all alike or one apart from the others. */
+static int tried(int count) {
+    unsigned all = (1u << count) - 1, others = all & ~sides;
+    return count < SLICES || (sides & (sides - 1)) == 0 || (others & (others - 1)) == 0;
+}
+
 static void accepted(void) {
     int count = (int)strlen(now->lent);
     slice s[SLICES];
     for (width = 1; width <= SIDE; width++)
         for (height = 1; height <= SIDE; height++)
             for (sides = 0; sides < 1u << count; sides++)
-                for (int round = 0; round < ROUNDS; round++) {
-                    for (int i = 0; i < count; i++) s[i] = against(i, now->lent[i], sides >> i & 1);
+                for (int round = 0; tried(count) && round < ROUNDS; round++) {
+                    for (int i = 0; i < count; i++) s[i] = against(i, now->lent[i], sides >> i & 1, round);
                     expect(0, round, s);
                 }
 }
 
-/* One call whose slices have these lengths, none of which may be touched. */
+/* Calls whose slices have these lengths, none of which may be touched but a message, which must be read. */
 static void refused(uint8_t number, const size_t *lengths) {
     slice s[SLICES];
     for (int i = 0; i < SLICES; i++) s[i] = (slice){area, lengths[i]};
-    for (int round = 0; round < ROUNDS; round++) expect(number, round, s);
+    for (int round = 0; round < ROUNDS; round++) {
+        if (now->lent[0] == 'b') s[0] = against(0, 'b', round % 2, round);
+        expect(number, round, s);
+    }
 }
 
 static void refused_sizes(void) {
@@ -259,7 +329,7 @@ static void refused_sizes(void) {
 /* A sheet that is one byte longer or shorter; a matrix, a table or a pair that is too long. */
 static void refused_lengths(void) {
     size_t lengths[SLICES] = {0}, count = strlen(now->lent), right;
-    for (size_t i = 0; i < count; i++) lengths[i] = elements(now->lent[i]);
+    for (size_t i = 0; i < count; i++) lengths[i] = elements(now->lent[i], 0);
     for (size_t i = 0; i < count; i++)
         if (strchr("sfd", now->lent[i])) {
             right = lengths[i];
@@ -275,6 +345,15 @@ static void refused_lengths(void) {
     refused(3, lengths);
 }
 
+/* Messages that lack 1 byte of their end or more. */
+static void refused_messages(void) {
+    size_t lengths[SLICES];
+    width = height = 1;
+    for (int i = 0; i < SLICES; i++) lengths[i] = 4;
+    for (cut = 1; cut <= sizeof toned; cut++) refused(10, lengths);
+    cut = 0;
+}
+
 int main(void) {
     make_area();
     signal(SIGSEGV, fault);
@@ -282,6 +361,7 @@ int main(void) {
     for (now = functions; now < functions + sizeof functions / sizeof *functions; now++) {
         accepted();
         if (now->sized) refused_sizes();
+        if (now->lent[0] == 'b') refused_messages();
         for (width = 1; width <= SIDE; width++)
             for (height = 1; height <= SIDE; height++)
                 if (now->lent[1] || now->sized) refused_lengths();

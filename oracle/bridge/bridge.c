@@ -2,7 +2,8 @@
    under an emulator, reads calls from its input and writes what they did to its output. It needs no
    C library. A call is a length and that many bytes of words: the function's number (its place in
    the header), then each number, and each slice as a count and its bytes, padded. The reply is a
-   word (number, step, whether memory was touched that must not be) and the written slices. */
+   word (number, step, whether memory was touched that must not be, whether slot 0 is reached), the
+   two words of the offset, the lower one first, and the written slices. */
 
 typedef __UINT8_TYPE__ uint8_t;
 typedef __UINT32_TYPE__ uint32_t;
@@ -11,6 +12,15 @@ typedef __INT32_TYPE__ int32_t;
 typedef __SIZE_TYPE__ size_t;
 
 typedef struct { uint8_t number; uint8_t step; } nup_answer;
+typedef struct { uint8_t number; uint8_t step; uint64_t offset; } nup_run_answer;
+typedef struct { uint8_t number; uint8_t step; uint8_t reaches; uint64_t offset; } nup_reach_answer;
+
+/* What each of them says, 0 where it says nothing. */
+typedef struct { uint8_t number, step, reaches; uint64_t offset; } told;
+
+static told of_nup_answer(nup_answer a) { return (told){a.number, a.step, 0, 0}; }
+static told of_nup_run_answer(nup_run_answer a) { return (told){a.number, a.step, 0, a.offset}; }
+static told of_nup_reach_answer(nup_reach_answer a) { return (told){a.number, a.step, a.reaches, a.offset}; }
 
 /* What compiled code may ask a C library for; sixteen bytes at a time where it can. */
 typedef uint8_t block __attribute__((vector_size(16), aligned(1), may_alias));
@@ -128,15 +138,17 @@ static int touched(void) {
 
 void bridge(void) {
     for (;;) {
-        uint32_t length, reply;
+        uint32_t length, reply[3];
         transfer(READ, (uint8_t *)&length, 4);
         if (length > ROOM) leave(1);
         transfer(READ, request, length);
         at = used = 0;
         lent = 0;
-        nup_answer answer = call();
-        reply = answer.number | (uint32_t)answer.step << 8 | (uint32_t)touched() << 16;
-        transfer(WRITE, (uint8_t *)&reply, 4);
+        told answer = call();
+        reply[0] = answer.number | (uint32_t)answer.step << 8 | (uint32_t)touched() << 16 | (uint32_t)answer.reaches << 24;
+        reply[1] = (uint32_t)answer.offset;
+        reply[2] = (uint32_t)(answer.offset >> 32);
+        transfer(WRITE, (uint8_t *)reply, sizeof reply);
         for (slice *s = slices; s < slices + lent; s++)
             if (s->written) transfer(WRITE, s->now, s->bytes);
     }

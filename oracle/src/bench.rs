@@ -1,5 +1,7 @@
 //! The library beside the Rust: least time of several runs, in ns for each element or pixel.
 
+mod recipes;
+
 use std::hint::black_box;
 use std::process::ExitCode;
 use std::time::{Duration, Instant};
@@ -37,6 +39,7 @@ pub fn run(slow: bool) -> ExitCode {
     }
     turbulence(SIDE);
     turbulence(64);
+    recipes::rows();
     ExitCode::SUCCESS
 }
 
@@ -292,6 +295,10 @@ fn transfers() -> [(&'static str, Vec<Param>); 3] {
     ]
 }
 
+fn slices(sheets: &mut [Vec<u8>]) -> Vec<&mut [u8]> {
+    sheets.iter_mut().map(|sheet| &mut sheet[..]).collect()
+}
+
 fn primitive_row(
     primitive: &Primitive,
     what: &str,
@@ -310,10 +317,7 @@ fn primitive_row(
     assert_eq!(primitive.answer(&case).number, 0, "{what}");
     let mut state = case.sheets.clone();
     let restore = |state: &mut Vec<Vec<u8>>| state.clone_from(&case.sheets);
-    let call = |state: &mut Vec<Vec<u8>>| {
-        let mut slices: Vec<&mut [u8]> = state.iter_mut().map(|sheet| &mut sheet[..]).collect();
-        (primitive.ours)(&case, &mut slices)
-    };
+    let call = |state: &mut Vec<Vec<u8>>| (primitive.ours)(&case, &mut slices(state));
     let ours = ours::DIRECT.then(|| {
         least(&mut state, restore, |state| {
             call(state);

@@ -5,7 +5,7 @@ use std::cell::RefCell;
 use std::io::{self, Read, Write};
 use std::process::{Child, ChildStdin, ChildStdout, Command, Stdio};
 
-use crate::case::Answer;
+use crate::case::{Answer, ReachAnswer, RunAnswer};
 
 struct Bridge {
     child: Child,
@@ -37,6 +37,52 @@ thread_local! {
     static BRIDGE: RefCell<Bridge> = RefCell::new(Bridge::start());
 }
 
+/// What the bridge tells of a call: any answer, 0 where a function's says nothing.
+pub struct Told {
+    answer: Answer,
+    reaches: u8,
+    offset: u64,
+}
+
+impl From<Answer> for Told {
+    fn from(answer: Answer) -> Told {
+        Told {
+            answer,
+            reaches: 0,
+            offset: 0,
+        }
+    }
+}
+
+impl From<Told> for Answer {
+    fn from(told: Told) -> Answer {
+        told.answer
+    }
+}
+
+impl From<Told> for RunAnswer {
+    fn from(told: Told) -> RunAnswer {
+        let Answer { number, step } = told.answer;
+        RunAnswer {
+            number,
+            step,
+            offset: told.offset,
+        }
+    }
+}
+
+impl From<Told> for ReachAnswer {
+    fn from(told: Told) -> ReachAnswer {
+        let Answer { number, step } = told.answer;
+        ReachAnswer {
+            number,
+            step,
+            reaches: told.reaches,
+            offset: told.offset,
+        }
+    }
+}
+
 /// A call on its way: the words so far, and the slices that come back.
 pub struct Message {
     words: Vec<u8>,
@@ -64,30 +110,35 @@ impl Message {
     /// # Safety
     ///
     /// Each pointer that was put and its length must be a slice that the call may use.
-    pub unsafe fn send(mut self) -> Answer {
+    pub unsafe fn send(mut self) -> Told {
         let length = self.words.len() as u32 - 4;
         self.words[..4].copy_from_slice(&length.to_le_bytes());
         BRIDGE.with_borrow_mut(|bridge| {
             unsafe { self.exchange(bridge) }.unwrap_or_else(|_| {
                 *bridge = Bridge::start();
-                Answer::ENDED
+                Answer::ENDED.into()
             })
         })
     }
 
     /// Sends the call and reads what it did; an error where the bridge has ended.
-    unsafe fn exchange(&self, bridge: &mut Bridge) -> io::Result<Answer> {
+    unsafe fn exchange(&self, bridge: &mut Bridge) -> io::Result<Told> {
         bridge.to.write_all(&self.words)?;
-        let mut reply = [0; 4];
+        let (mut reply, mut offset) = ([0; 4], [0; 8]);
         bridge.from.read_exact(&mut reply)?;
+        bridge.from.read_exact(&mut offset)?;
         for (start, bytes) in &self.written {
             let slice = unsafe { std::slice::from_raw_parts_mut(*start, *bytes) };
             bridge.from.read_exact(slice)?;
         }
-        let [number, step, touched, _] = reply;
+        let [number, step, touched, reaches] = reply;
         Ok(match touched {
-            0 => Answer { number, step },
-            _ => Answer::TOUCHED,
+            0 => Told {
+                answer: Answer { number, step },
+                reaches,
+                offset: u64::from_le_bytes(offset),
+            },
+            _ => Answer::TOUCHED.into(),
         })
     }
 }

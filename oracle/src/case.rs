@@ -25,11 +25,30 @@ pub struct Case {
 }
 
 /// The answer of a call.
-#[repr(C)]
 #[derive(Clone, Copy, Debug, PartialEq, Eq)]
+#[repr(C)]
 pub struct Answer {
     pub number: u8,
     pub step: u8,
+}
+
+/// What nup_run answers: for number 10, where in the message the wrong number begins.
+#[derive(Clone, Copy, Debug, PartialEq, Eq)]
+#[repr(C)]
+pub struct RunAnswer {
+    pub number: u8,
+    pub step: u8,
+    pub offset: u64,
+}
+
+/// What nup_reaches answers: the same, and 1 where the result reaches slot 0.
+#[derive(Clone, Copy, Debug, PartialEq, Eq)]
+#[repr(C)]
+pub struct ReachAnswer {
+    pub number: u8,
+    pub step: u8,
+    pub reaches: u8,
+    pub offset: u64,
 }
 
 impl Answer {
@@ -52,6 +71,37 @@ impl fmt::Display for Answer {
             Answer::ENDED => write!(out, "the end of its program"),
             Answer { number, step } => write!(out, "answer {number} at step {step}"),
         }
+    }
+}
+
+impl fmt::Display for RunAnswer {
+    fn fmt(&self, out: &mut fmt::Formatter) -> fmt::Result {
+        let RunAnswer {
+            number,
+            step,
+            offset,
+        } = *self;
+        write!(out, "{}, offset {offset}", Answer { number, step })
+    }
+}
+
+impl fmt::Display for ReachAnswer {
+    fn fmt(&self, out: &mut fmt::Formatter) -> fmt::Result {
+        let ReachAnswer {
+            number,
+            step,
+            reaches,
+            offset,
+        } = *self;
+        write!(
+            out,
+            "{}, reaches {reaches}",
+            RunAnswer {
+                number,
+                step,
+                offset
+            }
+        )
     }
 }
 

@@ -3,6 +3,7 @@
 use crate::case::{Case, Param};
 use crate::leaves::{self, Leaf};
 use crate::lend::Lent;
+use crate::message;
 use crate::nasty::Limits;
 use crate::ours;
 use crate::primitives::{ALL, Primitive};
@@ -15,7 +16,7 @@ pub const SEED: u64 = 0x636f_6d70;
 
 /// What `oracle compare` was asked for.
 pub struct Wanted {
-    /// One primitive or leaf, or all.
+    /// One primitive or leaf, or messages, or all.
     pub name: Option<String>,
     pub cases: u32,
     pub seed: u64,
@@ -35,8 +36,12 @@ pub fn run(wanted: &Wanted) -> Result<(), String> {
         found = true;
         compare_draws(primitive, wanted)?;
     }
+    if is_wanted("messages") {
+        found = true;
+        message::compare(wanted)?;
+    }
     match &wanted.name {
-        Some(name) if !found => Err(format!("no primitive or leaf is called {name}")),
+        Some(name) if !found => Err(format!("nothing that is compared is called {name}")),
         _ => Ok(()),
     }
 }
@@ -130,12 +135,7 @@ fn compare_primitive(
 
 /// Whether the library does what is expected: the answer's number, or what differs.
 pub fn check(primitive: &Primitive, case: &Case) -> Result<u8, String> {
-    let mut lent: Vec<Lent<u8>> = case
-        .sheets
-        .iter()
-        .enumerate()
-        .map(|(i, sheet)| Lent::new(sheet, 0xa5, (sheet.len() / 4 + i) % 4))
-        .collect();
+    let mut lent = lend(&case.sheets);
     let mut slices: Vec<&mut [u8]> = lent.iter_mut().map(Lent::now_mut).collect();
     let answer = (primitive.ours)(case, &mut slices);
     let expected = primitive.expected(case);
@@ -143,13 +143,21 @@ pub fn check(primitive: &Primitive, case: &Case) -> Result<u8, String> {
         let expected = expected.answer;
         return Err(format!("expected {expected}, the library gave {answer}"));
     }
-    for (i, (lent, sheet)) in lent.iter().zip(&expected.sheets).enumerate() {
-        if let Some(at) = lent
-            .now()
-            .iter()
-            .zip(sheet)
-            .position(|(ours, rust)| ours != rust)
-        {
+    compare_sheets(&lent, &expected.sheets)?;
+    Ok(answer.number)
+}
+
+/// The sheets between strips, their bytes at any alignment.
+pub fn lend(sheets: &[Vec<u8>]) -> Vec<Lent<u8>> {
+    let shifted = |(i, sheet): (usize, &Vec<u8>)| Lent::new(sheet, 0xa5, (sheet.len() / 4 + i) % 4);
+    sheets.iter().enumerate().map(shifted).collect()
+}
+
+/// What differs between the sheets that were lent and what is expected of them.
+pub fn compare_sheets(lent: &[Lent<u8>], expected: &[Vec<u8>]) -> Result<(), String> {
+    for (i, (lent, sheet)) in lent.iter().zip(expected).enumerate() {
+        let mut pairs = lent.now().iter().zip(sheet);
+        if let Some(at) = pairs.position(|(ours, rust)| ours != rust) {
             let (rust, ours) = (sheet[at], lent.now()[at]);
             return Err(format!(
                 "sheet {i} byte {at}: expected {rust}, the library left {ours}"
@@ -159,7 +167,7 @@ pub fn check(primitive: &Primitive, case: &Case) -> Result<u8, String> {
             return Err(format!("the library wrote outside sheet {i}"));
         }
     }
-    Ok(answer.number)
+    Ok(())
 }
 
 fn shown(primitive: &Primitive, title: &str, done: u32, case: Case) -> String {
@@ -173,7 +181,7 @@ fn shown(primitive: &Primitive, title: &str, done: u32, case: Case) -> String {
 }
 
 /// A case for people: numbers with their bits, sheets in hex, a pixel to a word.
-fn describe(case: &Case) -> String {
+pub fn describe(case: &Case) -> String {
     let number = |bits: &u32| format!("{:?} ({bits:#010x})", f32::from_bits(*bits));
     let mut text = format!("  width {} height {}\n", case.width, case.height);
     for (i, param) in case.params.iter().enumerate() {

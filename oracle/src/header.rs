@@ -16,7 +16,7 @@ pub struct Param {
 }
 
 /// The types of the header, and the same in Rust.
-pub const TYPES: [(&str, &str); 14] = [
+pub const TYPES: [(&str, &str); 16] = [
     ("uint8_t", "u8"),
     ("uint32_t", "u32"),
     ("size_t", "usize"),
@@ -31,6 +31,8 @@ pub const TYPES: [(&str, &str); 14] = [
     ("float *", "*mut f32"),
     ("double *", "*mut f64"),
     ("nup_answer", "Answer"),
+    ("nup_run_answer", "RunAnswer"),
+    ("nup_reach_answer", "ReachAnswer"),
 ];
 
 /// The functions in the header's order.

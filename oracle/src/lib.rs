@@ -11,6 +11,7 @@ pub mod floats;
 pub mod header;
 pub mod leaves;
 pub mod lend;
+pub mod message;
 pub mod nasty;
 pub mod ours;
 pub mod patterns;

@@ -12,7 +12,8 @@ const HELP: &str = "\
 usage: oracle COMMAND
 
   write CRATES                    write the stored lists below the folder of the crates: vectors/data/floats.bin
-                                  and a NAME.bin for each primitive, and recipes/data/recipes.bin
+                                  and a NAME.bin for each primitive, and recipes.bin and messages.bin of
+                                  recipes/data
   compare [NAME] [--cases N] [--seed S]
                                   compare the library with the Rust and the table of refusals, N cases
                                   each (20,000), drawn from the seed S, up to 16 hexadecimal digits
@@ -27,7 +28,7 @@ usage: oracle COMMAND
 compare, patterns and bench use target/staticlib/libnuprikhen.a of the repository; build it first
 (rt staticlib nuprikhen) and run this program by `cargo run --release --`, which links it.
 Names: to_bytes round_to_i32s sqrt32 sqrt64 to_f32s copy clear morphology color_matrix composite component_transfer
-convolve_matrix displacement_map turbulence diffuse_lighting specular_lighting.
+convolve_matrix displacement_map turbulence diffuse_lighting specular_lighting messages.
 Status: 0 no difference, 1 a difference or a library that cannot be called, 2 a wrong command.";
 
 fn main() -> ExitCode {
@@ -85,6 +86,7 @@ fn write(crates: &Path) -> std::io::Result<()> {
     fs::create_dir_all(&vectors)?;
     fs::create_dir_all(&recipes)?;
     fs::write(recipes.join("recipes.bin"), recipe::list())?;
+    fs::write(recipes.join("messages.bin"), recipe::messages())?;
     fs::write(vectors.join("floats.bin"), floats::bytes())?;
     for primitive in &ALL {
         let name = format!("{}.bin", primitive.name);

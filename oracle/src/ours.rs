@@ -2,7 +2,7 @@
 //! (`direct`), is called over the bridge (`bridged`), or cannot be called, and why.
 #![allow(clippy::too_many_arguments)]
 
-use crate::case::Answer;
+use crate::case::{Answer, ReachAnswer, RunAnswer};
 
 /// Whether the library runs in this program, so that its times mean something.
 pub const DIRECT: bool = cfg!(direct);
@@ -30,7 +30,8 @@ macro_rules! library {
             use crate::bridge::{Message, Put};
             let mut message = Message::new($index);
             $($arg.put(&mut message);)*
-            unsafe { message.send() }
+            let told = unsafe { message.send() };
+            told.into()
         }
 
         /// # Safety

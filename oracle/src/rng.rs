@@ -39,6 +39,12 @@ impl Rng {
         from[self.below(from.len() as u32) as usize]
     }
 
+    /// One of several places.
+    pub fn pick_mut<'a, T, const N: usize>(&mut self, from: [&'a mut T; N]) -> &'a mut T {
+        let at = self.below(N as u32) as usize;
+        from.into_iter().nth(at).expect("a place")
+    }
+
     pub fn byte(&mut self) -> u8 {
         (self.word() >> 56) as u8
     }

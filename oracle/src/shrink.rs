@@ -5,16 +5,22 @@ use crate::case::{Case, Param};
 /// Tries before giving up on something still smaller.
 const TRIES: usize = 100_000;
 
+/// What can be made simpler.
+pub trait Shrinks: Sized {
+    /// What is strictly simpler, the boldest first.
+    fn simpler(&self) -> impl Iterator<Item = Self>;
+}
+
 /// The simplest case found that still fails.
-pub fn shrink(case: Case, fails: &dyn Fn(&Case) -> bool) -> Case {
+pub fn shrink<T: Shrinks>(case: T, fails: &dyn Fn(&T) -> bool) -> T {
     let mut best = case;
     let mut left = TRIES;
     while left > 0 {
-        let tried = |candidate: &Case| {
+        let tried = |candidate: &T| {
             left = left.saturating_sub(1);
             fails(candidate)
         };
-        let smaller = candidates(&best).take(TRIES).find(tried);
+        let smaller = best.simpler().take(TRIES).find(tried);
         match smaller {
             Some(smaller) => best = smaller,
             None => break,
@@ -23,12 +29,13 @@ pub fn shrink(case: Case, fails: &dyn Fn(&Case) -> bool) -> Case {
     best
 }
 
-/// Cases that are strictly simpler, the boldest first.
-fn candidates(case: &Case) -> impl Iterator<Item = Case> {
-    sizes(case)
-        .chain(params(case))
-        .chain(lengths(case))
-        .chain(bytes(case))
+impl Shrinks for Case {
+    fn simpler(&self) -> impl Iterator<Item = Case> {
+        sizes(self)
+            .chain(params(self))
+            .chain(lengths(self))
+            .chain(bytes(self))
+    }
 }
 
 /// A part of the sheet: its left column, a half, or all but one column; rows likewise.
@@ -226,7 +233,7 @@ mod tests {
             params,
             sheets: vec![sheet],
         };
-        let small = shrink(case, &|case| {
+        let small = shrink(case, &|case: &Case| {
             let numbers = case.float(2) > 1.5 && case.double(3) > 0.7;
             case.sheets[0].iter().any(|b| (40..60).contains(b)) && numbers
         });

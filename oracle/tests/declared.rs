@@ -72,10 +72,10 @@ fn in_rust(text: &str, start: &str) -> Declared {
         let end = result
             .find(|c: char| !c.is_alphanumeric() && c != '_')
             .expect("an end");
-        let result = result[..end].replace("nup_answer", "Answer");
+        let result = rust(&result[..end]);
         let params = params.split(',').filter_map(|param| param.split_once(':'));
         let params = params.flat_map(|(param, kind)| parameter(name, param.trim(), kind.trim()));
-        (name.to_string(), shown(params.collect(), &result))
+        (name.to_string(), shown(params.collect(), result))
     });
     declared.collect()
 }
@@ -112,17 +112,25 @@ fn differences(header: &Declared, place: &str, there: &Declared) -> Vec<String> 
     lines.chain(more).collect()
 }
 
-#[test]
-fn rattle_has_the_headers_functions() {
-    let folder = Path::new(env!("CARGO_MANIFEST_DIR")).join("../crates/nuprikhen/src");
+const RATTLE: &str = "crates/nuprikhen/src";
+
+/// The whole Rattle source.
+fn rattle() -> String {
+    let folder = Path::new(env!("CARGO_MANIFEST_DIR"))
+        .join("..")
+        .join(RATTLE);
     let files = fs::read_dir(folder)
         .unwrap()
         .map(|entry| entry.unwrap().path());
-    let all: String = files
+    files
         .map(|file: PathBuf| fs::read_to_string(file).unwrap())
-        .collect();
-    let there = in_rust(&all, "pub extern \"C\" fn ");
-    let found = differences(&in_header(), "crates/nuprikhen/src", &there);
+        .collect()
+}
+
+#[test]
+fn rattle_has_the_headers_functions() {
+    let there = in_rust(&rattle(), "pub extern \"C\" fn ");
+    let found = differences(&in_header(), RATTLE, &there);
     assert!(found.is_empty(), "{}", found.join("\n"));
 }
 
@@ -139,39 +147,58 @@ fn the_package_has_the_headers_functions() {
     assert!(found.is_empty(), "{}", found.join("\n"));
 }
 
-/// The answer is two bytes, the number first, wherever it is declared.
+/// The fields of an answer with their types in Rust.
+type Fields = &'static [(&'static str, &'static str)];
+
+/// The answers: their names in C and Rattle and in Rust, and their fields.
+const ANSWERS: [(&str, &str, Fields); 3] = [
+    ("nup_answer", "Answer", &[BYTES[0], BYTES[1]]),
+    (
+        "nup_run_answer",
+        "RunAnswer",
+        &[BYTES[0], BYTES[1], ("offset", "u64")],
+    ),
+    (
+        "nup_reach_answer",
+        "ReachAnswer",
+        &[BYTES[0], BYTES[1], BYTES[2], ("offset", "u64")],
+    ),
+];
+const BYTES: [(&str, &str); 3] = [("number", "u8"), ("step", "u8"), ("reaches", "u8")];
+
+/// The fields of a struct in a text: they follow its name, or in C stand before it.
+fn fields<'a>(text: &'a str, in_c: &str, name: &str) -> Option<&'a str> {
+    if let Some((_, rest)) = text.split_once(&format!("#[repr(C)]\npub struct {name} {{")) {
+        return Some(rest.split_once('}')?.0);
+    }
+    let (before, _) = text.split_once(&format!("}} {in_c};"))?;
+    Some(before.rsplit_once("typedef struct {")?.1)
+}
+
+/// An answer has the same fields in the same order wherever it is declared.
 #[test]
-fn the_answer_is_alike() {
-    for (file, start) in [
-        ("include/nuprikhen.h", "typedef struct {"),
-        ("oracle/bridge/bridge.c", "typedef struct {"),
-        (
-            "oracle/src/case.rs",
-            "#[repr(C)]\n#[derive(Clone, Copy, Debug, PartialEq, Eq)]\npub struct Answer {",
-        ),
-        ("rust/src/library.rs", "#[repr(C)]\npub struct Answer {"),
-        (
-            "crates/nuprikhen/src/lib.rt",
-            "#[repr(C)]\npub struct nup_answer {",
-        ),
-    ] {
-        let text = text(file);
-        let (_, rest) = text.split_once(start).expect(file);
-        let (fields, _) = rest.split_once('}').expect(file);
-        let words: Vec<&str> = fields
-            .split(|c: char| !c.is_alphanumeric() && c != '_')
-            .collect();
-        let words: Vec<&str> = words
-            .into_iter()
-            .filter(|w| !["", "pub"].contains(w))
-            .collect();
-        let (c, rust) = (
-            ["uint8_t", "number", "uint8_t", "step"],
-            ["number", "u8", "step", "u8"],
-        );
-        assert!(
-            words == c || words == rust,
-            "the answer in {file}: {fields}"
-        );
+fn the_answers_are_alike() {
+    let files = [
+        "include/nuprikhen.h",
+        "oracle/bridge/bridge.c",
+        "oracle/src/case.rs",
+        "rust/src/library.rs",
+    ];
+    for (in_c, in_rust, wanted) in ANSWERS {
+        let others = files.map(|file| (file, text(file), in_rust));
+        for (file, text, name) in others.into_iter().chain([(RATTLE, rattle(), in_c)]) {
+            let fields = fields(&text, in_c, name).unwrap_or_else(|| panic!("{name} in {file}"));
+            let words = fields.split(|c: char| !c.is_alphanumeric() && c != '_');
+            let words: Vec<&str> = words.filter(|w| !["", "pub"].contains(w)).collect();
+            let rust: Vec<&str> = wanted
+                .iter()
+                .flat_map(|(name, kind)| [*name, *kind])
+                .collect();
+            let c: Vec<String> = wanted
+                .iter()
+                .flat_map(|(name, kind)| [kind.replace('u', "uint") + "_t", name.to_string()])
+                .collect();
+            assert!(words == rust || words == c, "{name} in {file}: {fields}");
+        }
     }
 }

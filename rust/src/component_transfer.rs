@@ -23,7 +23,7 @@ pub enum TransferFunction<'a> {
 
 impl TransferFunction<'_> {
     /// The number of the kind.
-    fn kind(&self) -> u8 {
+    pub(crate) fn kind(&self) -> u8 {
         match self {
             TransferFunction::Identity => 0,
             TransferFunction::Table(_) => 1,

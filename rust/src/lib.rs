@@ -2,9 +2,10 @@
 //!
 //! A sheet is a slice of exactly 4 x width x height bytes: r, g, b, a of each pixel, row by row. Its
 //! colour is straight or premultiplied by alpha, as each function says. Modules and functions have
-//! resvg's names. No function panics, allocates or keeps what it is lent.
+//! resvg's names. No function panics or keeps what it is lent; none allocates but those of [`recipe`].
 //!
-//! A call tests first and writes afterwards: on a [`Refusal`] no lent byte has changed.
+//! A call tests first and writes afterwards: on a [`Refusal`] no lent byte has changed. [`recipe`] runs several
+//! filters in a row, over four sheets.
 //!
 //! ```
 //! use nuprikhen::morphology::{self, MorphologyOperator};
@@ -25,6 +26,7 @@ pub mod displacement_map;
 mod library;
 pub mod lighting;
 pub mod morphology;
+pub mod recipe;
 mod refusal;
 pub mod turbulence;
 

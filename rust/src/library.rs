@@ -10,6 +10,23 @@ pub struct Answer {
     step: u8,
 }
 
+/// The answer to a message: the offset is where the wrong number begins, of number 10.
+#[repr(C)]
+pub struct RunAnswer {
+    pub number: u8,
+    pub step: u8,
+    pub offset: u64,
+}
+
+/// The same, and 1 where the result reaches slot 0.
+#[repr(C)]
+pub struct ReachAnswer {
+    pub number: u8,
+    pub step: u8,
+    pub reaches: u8,
+    pub offset: u64,
+}
+
 impl Answer {
     pub fn told(self) -> Result<(), Refusal> {
         match self.number {
@@ -176,4 +193,40 @@ unsafe extern "C" {
         dest: *mut u8,
         dest_len: usize,
     ) -> Answer;
+
+    pub fn nup_run(
+        message: *const u8,
+        message_len: usize,
+        kind: u8,
+        width: u32,
+        height: u32,
+        source: *const u8,
+        source_len: usize,
+        slot1: *mut u8,
+        slot1_len: usize,
+        slot2: *mut u8,
+        slot2_len: usize,
+        slot3: *mut u8,
+        slot3_len: usize,
+        scratch: *mut u8,
+        scratch_len: usize,
+    ) -> RunAnswer;
+
+    pub fn nup_reaches(
+        message: *const u8,
+        message_len: usize,
+        kind: u8,
+        width: u32,
+        height: u32,
+        source: *const u8,
+        source_len: usize,
+        slot1: *const u8,
+        slot1_len: usize,
+        slot2: *const u8,
+        slot2_len: usize,
+        slot3: *const u8,
+        slot3_len: usize,
+        scratch: *const u8,
+        scratch_len: usize,
+    ) -> ReachAnswer;
 }

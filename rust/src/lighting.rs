@@ -12,7 +12,8 @@ pub enum LightSource {
 }
 
 impl LightSource {
-    fn parts(self) -> (u8, f32, f32, f32) {
+    /// The number of the case, and x, y and z.
+    pub(crate) fn parts(self) -> (u8, f32, f32, f32) {
         match self {
             LightSource::Distant(x, y, z) => (0, x, y, z),
             LightSource::Point(x, y, z) => (1, x, y, z),

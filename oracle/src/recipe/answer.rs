@@ -49,7 +49,7 @@ fn before_steps(recipe: &Recipe) -> u8 {
 /// Tests 7, 8, 3, 4 and 5 of one step.
 fn of_step(recipe: &Recipe, step: &Step, held: &Held) -> u8 {
     let slots = step.inputs.iter().chain([&step.output]);
-    let unwritten = |slot: u8| held[slot as usize].is_none();
+    let unwritten = |slot: u32| held[slot as usize].is_none();
     if slots.into_iter().any(|slot| *slot > 3)
         || step.output == 0
         || step.inputs.contains(&step.output)
@@ -59,7 +59,7 @@ fn of_step(recipe: &Recipe, step: &Step, held: &Held) -> u8 {
     }
     let wanted = step.work.wanted();
     let wrong =
-        |(slot, wanted): (&u8, &Option<Kind>)| wanted.is_some() && held[*slot as usize] != *wanted;
+        |(slot, wanted): (&u32, &Option<Kind>)| wanted.is_some() && held[*slot as usize] != *wanted;
     if step.inputs.iter().zip(&wanted).any(wrong) {
         return 8;
     }

@@ -60,10 +60,11 @@ fn draw_of(rng: &mut Rng, (width, height): (u32, u32), kind: Kind, count: u32) -
 fn draw_step(rng: &mut Rng, recipe: &mut Recipe, chain: bool) -> Step {
     let held = held(recipe.kind, &recipe.steps);
     let last = recipe.steps.last().map_or(0, |step| step.output);
-    let others: Vec<u8> = (1..4).filter(|slot| !chain || *slot != last).collect();
+    let others: Vec<u32> = (1..4).filter(|slot| !chain || *slot != last).collect();
     let output = rng.pick(&others);
-    let readable = |kind: Option<Kind>| -> Vec<u8> {
-        let holds = |slot: u8| held[slot as usize].is_some_and(|has| kind.is_none_or(|k| k == has));
+    let readable = |kind: Option<Kind>| -> Vec<u32> {
+        let holds =
+            |slot: u32| held[slot as usize].is_some_and(|has| kind.is_none_or(|k| k == has));
         let slots = (0..4).filter(|slot| *slot != output && holds(*slot));
         slots.collect()
     };
@@ -73,7 +74,7 @@ fn draw_step(rng: &mut Rng, recipe: &mut Recipe, chain: bool) -> Step {
     };
     let mapped = !readable(Some(Kind::Straight)).is_empty();
     let work = draw_work(rng, recipe, held[first as usize].unwrap(), mapped);
-    let mut inputs: Vec<u8> = work
+    let mut inputs: Vec<u32> = work
         .wanted()
         .into_iter()
         .map(|kind| rng.pick(&readable(kind)))
@@ -416,7 +417,7 @@ fn spoil_own(rng: &mut Rng, recipe: &mut Recipe, at: usize) {
 }
 
 /// One of the values in the place of one of the step's floats.
-fn spoil_float(rng: &mut Rng, recipe: &mut Recipe, at: usize, values: &[f32]) {
+pub fn spoil_float(rng: &mut Rng, recipe: &mut Recipe, at: usize, values: &[f32]) {
     let value = rng.pick(values);
     let Recipe { steps, pool, .. } = recipe;
     let mut pooled = |start: u32, place: u32| {
@@ -468,8 +469,8 @@ fn spoil_float(rng: &mut Rng, recipe: &mut Recipe, at: usize, values: &[f32]) {
 
 /// A slot that there is not, an output that is no working slot or an input, an input that holds nothing yet.
 fn spoil_slot(rng: &mut Rng, recipe: &mut Recipe, at: usize) {
-    let written = |slot: u8| recipe.steps[..at].iter().any(|step| step.output == slot);
-    let unwritten: Vec<u8> = (1..4).filter(|slot| !written(*slot)).collect();
+    let written = |slot: u32| recipe.steps[..at].iter().any(|step| step.output == slot);
+    let unwritten: Vec<u32> = (1..4).filter(|slot| !written(*slot)).collect();
     let step = &mut recipe.steps[at];
     let input = rng.below(step.inputs.len() as u32) as usize;
     let faults = if step.inputs.is_empty() { 2 } else { 6 };
@@ -497,8 +498,8 @@ fn spoil_kind(rng: &mut Rng, recipe: &mut Recipe, at: usize) {
     let output = recipe.steps[at].output;
     let first = recipe.steps[at].inputs.first().map_or(0, |slot| *slot);
     let straight = held[first as usize] == Some(Kind::Straight);
-    let premultiplied = |slot: &u8| held[*slot as usize] == Some(Kind::Premultiplied);
-    let maps: Vec<u8> = (0..4)
+    let premultiplied = |slot: &u32| held[*slot as usize] == Some(Kind::Premultiplied);
+    let maps: Vec<u32> = (0..4)
         .filter(|slot| *slot != output && premultiplied(slot))
         .collect();
     let alone = |work: Work| (work, vec![first]);

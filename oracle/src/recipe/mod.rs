@@ -9,10 +9,10 @@ mod stored;
 
 pub use answer::answer;
 use answer::held;
-pub use draw::{draw, draw_spoiled};
+pub use draw::{draw, draw_spoiled, spoil_float};
 pub use reach::{reach, reaches};
 pub use run::run;
-pub use stored::list;
+pub use stored::{list, messages};
 
 use crate::case::{Case, Param};
 use crate::primitives::{self, Primitive};
@@ -24,6 +24,16 @@ pub const STEPS: usize = 16;
 pub enum Kind {
     Straight,
     Premultiplied,
+}
+
+impl Kind {
+    /// As calls and lists have it.
+    pub fn number(self) -> u8 {
+        match self {
+            Kind::Straight => 0,
+            Kind::Premultiplied => 1,
+        }
+    }
 }
 
 #[derive(Clone, Copy, Debug)]
@@ -88,8 +98,8 @@ pub enum Function {
 #[derive(Clone, Debug)]
 pub struct Step {
     pub work: Work,
-    pub inputs: Vec<u8>,
-    pub output: u8,
+    pub inputs: Vec<u32>,
+    pub output: u32,
 }
 
 /// A recipe and everything that a run of it is lent: the sheets are slots 0 to 3 and scratch.
@@ -109,7 +119,7 @@ pub struct Recipe {
 pub const SCRATCH: usize = 4;
 
 impl Work {
-    fn primitive(&self) -> &'static Primitive {
+    pub fn primitive(&self) -> &'static Primitive {
         let name = match self {
             Work::Morphology(..) => "morphology",
             Work::Arithmetic(_) => "composite",
@@ -125,6 +135,30 @@ impl Work {
         };
         let mut all = primitives::ALL.iter();
         all.find(|primitive| primitive.name == name).unwrap()
+    }
+
+    /// The ranges of the pool that it has, a start and a length each.
+    pub fn ranges(&mut self) -> Vec<(&mut u32, &mut u32)> {
+        match self {
+            Work::Matrix(start, length) => vec![(start, length)],
+            Work::Convolve(kernel) => vec![(&mut kernel.start, &mut kernel.length)],
+            Work::Transfer(functions) => functions
+                .iter_mut()
+                .filter_map(|function| match function {
+                    Function::Table(start, length) | Function::Discrete(start, length) => {
+                        Some((start, length))
+                    }
+                    _ => None,
+                })
+                .collect(),
+            _ => vec![],
+        }
+    }
+
+    /// How many numbers its ranges have.
+    pub fn numbers(mut self) -> usize {
+        let ranges = self.ranges().into_iter();
+        ranges.map(|(_, length)| *length as usize).sum()
     }
 
     /// The kind that each input must have; None where either will do.
@@ -246,7 +280,7 @@ impl Recipe {
     }
 
     /// A step's work as a single call with no sheets yet.
-    fn call(&self, work: &Work) -> Option<Case> {
+    pub fn call(&self, work: &Work) -> Option<Case> {
         Some(Case {
             width: self.width,
             height: self.height,

@@ -42,7 +42,7 @@ mod tests {
         values.iter().flat_map(|a| [0, 0, 0, *a]).collect()
     }
 
-    fn step(work: Work, inputs: &[u8], output: u8) -> Step {
+    fn step(work: Work, inputs: &[u32], output: u32) -> Step {
         Step {
             work,
             inputs: inputs.into(),

@@ -1,17 +1,25 @@
-//! The stored list of recipes, which a Rattle program replays without Rust.
+//! The stored lists of recipes, which a Rattle program replays without Rust.
 //!
-//! Little-endian u32 words: width, height, kind (0 straight, 1 premultiplied), P, the P numbers of the
+//! recipes.bin: little-endian u32 words: width, height, kind (0 straight, 1 premultiplied), P, the P numbers of the
 //! pool, count, S, and S steps of twenty words: code, output, first input, second input (0 where there is none) and
 //! sixteen parameters; then five times a length with that many bytes (slots 0 to 3 and
 //! scratch); then the answer's number and step, 1 where the result reaches slot 0 and else 0, and the five
 //! sheets' bytes after the run. Bytes are padded with zeros to a whole number of words. The end of the file
 //! ends the list.
+//!
+//! messages.bin: the same recipes as messages, as far as a message can say them (`sendable`). A case is its width and
+//! height, a word each; its kind, one byte; the message's length, a word, and the message's bytes, without padding;
+//! then, as in recipes.bin, the five lengths with their sheets, the answer's number and step, whether it reaches, and
+//! the five sheets afterwards. Words are little-endian u32 at any place; behind each sheet's bytes stand zeros up to the
+//! next multiple of four of its length. The answers are those of nup_run and nup_reaches: a message of over 16 steps is
+//! refused 6 before any other test.
 
 use super::{
     Function, Kernel, Kind, Lighting, Recipe, STEPS, Step, Work, answer, draw, draw_spoiled,
     reaches, run,
 };
 use crate::case::Answer;
+use crate::message::{expected, message, sendable};
 use crate::primitives;
 use crate::rng::Rng;
 
@@ -25,6 +33,15 @@ pub fn list() -> Vec<u8> {
     let mut list = Vec::new();
     for recipe in recipes() {
         write(&mut list, &recipe);
+    }
+    list
+}
+
+/// The same recipes as messages.
+pub fn messages() -> Vec<u8> {
+    let mut list = Vec::new();
+    for recipe in recipes() {
+        write_message(&mut list, &sendable(recipe));
     }
     list
 }
@@ -70,7 +87,7 @@ fn can_give(name: &str, number: u8) -> bool {
     }
 }
 
-fn step(work: Work, inputs: &[u8], output: u8) -> Step {
+fn step(work: Work, inputs: &[u32], output: u32) -> Step {
     Step {
         work,
         inputs: inputs.into(),
@@ -146,25 +163,52 @@ fn in_one_step() -> [Work; 3] {
 
 fn write(list: &mut Vec<u8>, recipe: &Recipe) {
     let outcome = run(recipe);
-    let kind = match recipe.kind {
-        Kind::Straight => 0,
-        Kind::Premultiplied => 1,
-    };
     let pool = recipe.pool.iter().map(|x| x.to_bits());
+    let kind = recipe.kind.number() as u32;
     write_words(list, [recipe.width, recipe.height, kind, pool.len() as u32]);
     write_words(list, pool);
     write_words(list, [recipe.count, recipe.steps.len() as u32]);
     for step in &recipe.steps {
         write_words(list, words(step));
     }
+    write_run(
+        list,
+        recipe,
+        outcome.answer,
+        reaches(recipe),
+        &outcome.sheets,
+    );
+}
+
+fn write_message(list: &mut Vec<u8>, recipe: &Recipe) {
+    let (message, kind) = (message(recipe), recipe.kind.number());
+    write_words(list, [recipe.width, recipe.height]);
+    list.push(kind);
+    write_words(list, [message.len() as u32]);
+    list.extend(message);
+    let expected = expected(recipe, kind);
+    let answer = Answer {
+        number: expected.answer.number,
+        step: expected.answer.step,
+    };
+    write_run(list, recipe, answer, expected.reaches, &expected.sheets);
+}
+
+/// The sheets, the answer, and the sheets after the run.
+fn write_run(
+    list: &mut Vec<u8>,
+    recipe: &Recipe,
+    answer: Answer,
+    reaches: bool,
+    sheets: &[Vec<u8>],
+) {
     for sheet in &recipe.sheets {
         write_words(list, [sheet.len() as u32]);
         write_bytes(list, sheet);
     }
-    let Answer { number, step } = outcome.answer;
-    let reaches = reaches(recipe) as u32;
-    write_words(list, [number as u32, step as u32, reaches]);
-    for sheet in &outcome.sheets {
+    let Answer { number, step } = answer;
+    write_words(list, [number as u32, step as u32, reaches as u32]);
+    for sheet in sheets {
         write_bytes(list, sheet);
     }
 }
@@ -192,10 +236,10 @@ fn words(step: &Step) -> [u32; STEP_WORDS] {
         Work::Diffuse(lighting) => (8, lighting_words(lighting, None)),
         Work::Specular(lighting, exponent) => (9, lighting_words(lighting, Some(exponent))),
     };
-    let input = |i: usize| step.inputs.get(i).map_or(0, |slot| *slot as u32);
+    let input = |i: usize| step.inputs.get(i).map_or(0, |slot| *slot);
     let (first, second) = (input(0), input(1));
     let mut words = [0; STEP_WORDS];
-    words[..4].copy_from_slice(&[code, step.output as u32, first, second]);
+    words[..4].copy_from_slice(&[code, step.output, first, second]);
     words[4..4 + parameters.len()].copy_from_slice(&parameters);
     words
 }
@@ -241,60 +285,94 @@ fn write_words(list: &mut Vec<u8>, words: impl IntoIterator<Item = u32>) {
 
 fn write_bytes(list: &mut Vec<u8>, bytes: &[u8]) {
     list.extend(bytes);
-    list.resize(list.len().next_multiple_of(4), 0);
+    let padding = bytes.len().next_multiple_of(4) - bytes.len();
+    list.resize(list.len() + padding, 0);
 }
 
 #[cfg(test)]
 mod tests {
     use super::*;
+    use crate::message::read;
     use crate::recipe::SCRATCH;
     use std::collections::{BTreeMap, BTreeSet};
 
     const MOST_BYTES: usize = 250_000;
 
-    /// Reads the list back by its description alone: the answers with their steps, and which reach.
-    fn answers(list: &[u8]) -> Vec<(u32, u32, u32)> {
-        let mut at = 0;
-        let word = |at: &mut usize| {
-            *at += 4;
-            u32::from_le_bytes(list[*at - 4..*at].try_into().unwrap())
-        };
-        let mut answers = Vec::new();
-        while at < list.len() {
-            at += 12;
-            at += 4 * word(&mut at) as usize;
-            let count = word(&mut at) as usize;
-            let steps = word(&mut at) as usize;
-            assert!(steps <= STEPS && (count > STEPS || count <= steps));
-            at += 4 * STEP_WORDS * steps;
+    /// A list and the place in it.
+    struct Reader<'a>(&'a [u8], usize);
+
+    impl Reader<'_> {
+        fn word(&mut self) -> u32 {
+            self.1 += 4;
+            u32::from_le_bytes(self.0[self.1 - 4..self.1].try_into().unwrap())
+        }
+
+        /// The sheets before and after, and the answer between: its number and step, and whether it reaches.
+        fn run(&mut self) -> (u32, u32, u32) {
             let mut spans = Vec::new();
             for _ in 0..5 {
-                let length = word(&mut at) as usize;
-                spans.push(at..at + length);
-                at += length.next_multiple_of(4);
+                let length = self.word() as usize;
+                spans.push(self.1..self.1 + length);
+                self.1 += length.next_multiple_of(4);
             }
-            let (number, step, reaches) = (word(&mut at), word(&mut at), word(&mut at));
+            let (number, step, reaches) = (self.word(), self.word(), self.word());
             for (slot, span) in spans.into_iter().enumerate() {
-                let after = &list[at..at + span.len()];
-                at += span.len().next_multiple_of(4);
+                let after = &self.0[self.1..self.1 + span.len()];
+                self.1 += span.len().next_multiple_of(4);
                 if number != 0 || slot == 0 {
-                    assert_eq!(list[span], *after);
+                    assert_eq!(self.0[span], *after);
                 } else if slot == SCRATCH {
                     assert!(after.iter().all(|b| *b == 0));
                 }
             }
-            answers.push((number, step, reaches));
+            (number, step, reaches)
         }
-        assert_eq!(at, list.len());
+    }
+
+    /// Reads a list back by its description alone, `head` what stands before the sheets: the answers.
+    fn answers(list: &[u8], head: fn(&mut Reader)) -> Vec<(u32, u32, u32)> {
+        let mut reader = Reader(list, 0);
+        let mut answers = Vec::new();
+        while reader.1 < list.len() {
+            head(&mut reader);
+            answers.push(reader.run());
+        }
+        assert_eq!(reader.1, list.len());
         answers
     }
 
+    fn recipe_head(reader: &mut Reader) {
+        reader.1 += 12;
+        reader.1 += 4 * reader.word() as usize;
+        let (count, steps) = (reader.word() as usize, reader.word() as usize);
+        assert!(steps <= STEPS && (count > STEPS || count <= steps));
+        reader.1 += 4 * STEP_WORDS * steps;
+    }
+
+    fn message_head(reader: &mut Reader) {
+        reader.1 += 9;
+        let length = reader.word() as usize;
+        let (start, end) = (reader.1, reader.1 + length);
+        let told = read(&reader.0[start..end]);
+        assert!(told.is_ok_and(|(_, pool)| pool.len() < 4096) || reader.0[start] > STEPS as u8);
+        reader.1 = end;
+    }
+
     #[test]
-    fn the_list_reads_back_and_holds_every_answer_at_many_steps() {
-        let list = list();
-        let answers = answers(&list);
-        println!("{} bytes, {} recipes", list.len(), answers.len());
-        assert!(list.len() <= MOST_BYTES);
+    fn the_lists_read_back_and_hold_every_answer_at_many_steps() {
+        assert_eq!((list(), messages()), (list(), messages()));
+        for (list, head) in [
+            (list(), recipe_head as fn(&mut Reader)),
+            (messages(), message_head),
+        ] {
+            println!("{} bytes", list.len());
+            assert!(list.len() <= MOST_BYTES);
+            hold_every_answer(&answers(&list, head));
+        }
+    }
+
+    fn hold_every_answer(answers: &[(u32, u32, u32)]) {
+        println!("{} recipes", answers.len());
         assert!(answers.len() > 350);
         for number in 0..9 {
             let these = answers.iter().filter(|answer| answer.0 == number);
@@ -315,34 +393,37 @@ mod tests {
         let reach = accepted.clone().filter(|answer| answer.2 == 1).count();
         println!("{reach} reach the source");
         assert!(reach >= 100 && accepted.count() - reach >= 15);
-        assert_eq!(list, super::list());
     }
 
-    /// Each primitive is run often, and stands where a recipe is refused for each reason that it can give.
+    /// Each primitive is run often, and stands where a recipe is refused for each reason that it can give, as a
+    /// message too.
     #[test]
     fn every_work_is_taken_and_refused() {
-        let mut seen = BTreeMap::new();
-        for recipe in recipes() {
-            let answer = answer(&recipe);
-            let steps: &[Step] = match answer.number {
-                0 => recipe.taken(),
-                1 | 2 | 6 => &[],
-                _ => &recipe.steps[answer.step as usize..][..1],
-            };
-            for step in steps {
-                let name = step.work.primitive().name;
-                seen.entry(name).or_insert([0; 9])[answer.number as usize] += 1;
+        let sent: Vec<Recipe> = recipes().into_iter().map(sendable).collect();
+        for recipes in [recipes(), sent] {
+            let mut seen = BTreeMap::new();
+            for recipe in recipes {
+                let answer = answer(&recipe);
+                let steps: &[Step] = match answer.number {
+                    0 => recipe.taken(),
+                    1 | 2 | 6 => &[],
+                    _ => &recipe.steps[answer.step as usize..][..1],
+                };
+                for step in steps {
+                    let name = step.work.primitive().name;
+                    seen.entry(name).or_insert([0; 9])[answer.number as usize] += 1;
+                }
             }
-        }
-        for (name, counts) in &seen {
-            println!("{name}: {counts:?}");
-            assert!(counts[0] >= 20, "{name}");
-            for number in OF_STEPS {
-                let often = counts[number as usize] > 1;
-                assert_eq!(often, can_give(name, number), "{name} {number}");
+            for (name, counts) in &seen {
+                println!("{name}: {counts:?}");
+                assert!(counts[0] >= 20, "{name}");
+                for number in OF_STEPS {
+                    let often = counts[number as usize] > 1;
+                    assert_eq!(often, can_give(name, number), "{name} {number}");
+                }
             }
+            assert_eq!(seen.len(), primitives::ALL.len());
         }
-        assert_eq!(seen.len(), primitives::ALL.len());
     }
 
     /// The first test that fails answers: 1, 2, 6, then step by step 7, 8, 3, 4, 5.
@@ -423,7 +504,7 @@ mod tests {
         let moved = Work::Displacement([0, 1], [1.0; 3]);
         let clouds = Work::Turbulence([1.0; 6], 1, 1, 0);
         let (straight, premultiplied) = (Kind::Straight, Kind::Premultiplied);
-        let made = |kind: Kind, work: Work, inputs: &[u8]| {
+        let made = |kind: Kind, work: Work, inputs: &[u32]| {
             let works = [
                 (Work::Saturate(1.0), straight),
                 (Work::Morphology(0, 1.0, 1.0), premultiplied),
