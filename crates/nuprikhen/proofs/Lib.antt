@@ -6,3 +6,4 @@ mod Naming
 mod Edges
 mod Selectors
 mod Lights
+pub mod Recipes

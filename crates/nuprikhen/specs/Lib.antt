@@ -6,4 +6,5 @@ pub mod Convolving
 pub mod Channels
 pub mod Noise
 pub mod Lights
+pub mod Recipes
 pub mod inner

@@ -8,6 +8,7 @@ mod nup_convolve_matrix;
 mod nup_displacement_map;
 mod nup_lighting;
 mod nup_morphology;
+mod nup_recipes;
 mod nup_turbulence;
 
 use sheet::Answer;

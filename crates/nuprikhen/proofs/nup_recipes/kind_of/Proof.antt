@@ -1,0 +1,15 @@
+-- The tests come in the definition's order.
+use Rattle.sheet.proofs.Answers.{tests}
+use Rattle.nuprikhen.proofs.nup_recipes.kind_of.Statement.{statement}
+use Rattle.nuprikhen.proofs.nup_recipes.kind_of.Tie as tie
+use Rattle.nuprikhen.proofs.nup_recipes.kind_of.Reads as reads
+use Rattle.nuprikhen.proofs.nup_recipes.kind_of.Lts as lts
+
+returns : tie.Need-returns
+returns c = search tests
+
+returns-2 : tie.Need-returns-2
+returns-2 c = search tests
+
+pub kind-of-spec : {M : Type 1} → statement M
+kind-of-spec = tie.close (tie.spec returns returns-2)
