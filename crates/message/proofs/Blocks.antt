@@ -1,15 +1,15 @@
 -- A row is read number by number: what is read so far stands before what the rest of the row gives.
 use Prim.Native.Nat.{ℕ, zero, suc, _+_, _-_, _≤_, _<_}
-use mathlib.Core.Path.{_≡_, refl, sym, ap, _∙_}
+use mathlib.Core.Path.{_≡_, refl, _∙_}
 use mathlib.Core.Bool.{Bool, true, false, cond}
-use mathlib.Core.List.{List, [], _∷_, _++_, append-assoc, append-nil}
+use mathlib.Core.List.{List, _++_, append-nil}
 use native.Mathlib.Numerals.{add-one}
 use native.Mathlib.Omega.{arith}
-use borrow.Author.Tests.{eq-eqb, ne-eqb, lt-ltb, le-ltb}
+use borrow.Author.Tests.{ne-eqb, lt-ltb, le-ltb}
 use lib.Dec.{eqb, ltb}
-use lib.ListN.{length, take, drop, getD, set, length-set, drop-of-length-le}
-use lib.Seq.{drop-cons, take-suc, take-suc-set, length-take-le, getD-take}
-use Rattle.number.specs.Words.{Words, word, stop, wordsAt, Got, got, wrong, andThen}
+use lib.ListN.{length, take, drop, getD, set, drop-of-length-le}
+use lib.Seq.{drop-cons, take-suc-set}
+use Rattle.number.specs.Words.{word, stop, wordsAt, Got, got, wrong, andThen}
 use Rattle.message.specs.declared.Place.the-variants.{At}
 use Rattle.message.proofs.Gathered.{same-got, one-more}
 use Rattle.message.specs.inner.Reading.{tooLarge, readBlock, firsts, gotAt}

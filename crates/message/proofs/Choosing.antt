@@ -1,22 +1,19 @@
 -- What a kind calls for: a list, or a row of floats.
-use Prim.Native.Nat.{ℕ, zero, suc, _+_, _≤_, _<_}
-use mathlib.Core.Path.{_≡_, refl, sym, ap, _∙_}
-use mathlib.Core.Bool.{true, false, cond}
-use mathlib.Core.List.{List, [], _∷_, _++_, map}
+use Prim.Native.Nat.{ℕ, zero, suc, _≤_, _<_}
+use mathlib.Core.Path.{_≡_, refl, sym, _∙_}
+use mathlib.Core.List.{List, [], _∷_, map}
 use native.Mathlib.Omega.{arith}
 use borrow.Author.Tests.{lt-ltb, le-ltb}
-use lib.Dec.{ltb}
 use lib.ListN.{length, take, getD, replicate}
 use lib.Ieee.{Float, nan, binary32, ofBits}
 use Rattle.pool.specs.declared.Numbers.{Numbers}
-use Rattle.number.specs.Words.{Words, word, stop, wordsAt, Got, got, wrong, andThen}
+use Rattle.number.specs.Words.{Words, word, stop, wordsAt, got, andThen}
 use Rattle.message.specs.declared.Place.{Place}
 use Rattle.message.specs.declared.Place.the-variants.{Wrong}
 use Rattle.message.specs.declared.block.Block.{Block}
 use Rattle.message.specs.declared.lists.NumbersRead.{NumbersRead}
 use Rattle.message.specs.declared.choice.Choice.{Choice}
 use Rattle.message.specs.Fields.{Shape, none, one, two, list, Payload, shapeOf, choice, Value, readNumbers, readShape, readField}
-use Rattle.message.specs.Steps.{range}
 use Rattle.message.specs.inner.Reading.{Taken, readBlock, firsts, BlockRead, NumbersTaken, shapeBy, ShapeTaken, ChoiceTaken}
 use Rattle.message.proofs.Gathered.{same-got}
 use Rattle.message.proofs.Taking.{nothing-taken, block-taken, made-taken}

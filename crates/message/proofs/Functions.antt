@@ -1,22 +1,21 @@
 -- Transfer functions one after the other: the numbers of each stand behind those before it.
 use Prim.Native.Nat.{ℕ, zero, suc, _+_, _≤_}
-use mathlib.Core.Path.{_≡_, refl, sym, ap, _∙_}
-use mathlib.Core.List.{List, [], _∷_, _++_, append-nil, append-assoc}
+use mathlib.Core.Path.{_≡_, refl, sym, _∙_}
+use mathlib.Core.List.{List, [], _∷_, append-nil}
 use native.Mathlib.Omega.{arith}
 use borrow.Author.Tests.{ne-eqb}
 use lib.ListN.{length, getD, length-append}
 use lib.Ieee.{Float}
 use Rattle.color_matrix.specs.declared.ColorMatrix.the-variants.{LuminanceToAlpha}
 use Rattle.component_transfer.specs.declared.TransferFunction.the-variants.{Identity}
-use Rattle.number.specs.Words.{Words, wordsAt, Got, got, wrong, andThen}
-use Rattle.message.specs.declared.Place.{Place}
+use Rattle.number.specs.Words.{wordsAt, got}
 use Rattle.message.specs.declared.Place.the-variants.{At}
 use Rattle.message.specs.declared.choice.Choice.{Choice}
 use Rattle.message.specs.declared.listed.PairRead.{PairRead}
 use Rattle.message.specs.declared.listed.FunctionsRead.{FunctionsRead}
-use Rattle.message.specs.Fields.{Payload, shapeOf, Value, Values, choice, readField, read, pooledBy, pooled}
+use Rattle.message.specs.Fields.{Payload, shapeOf, Value, Values, readField, read, pooledBy, pooled}
 use Rattle.message.specs.Steps.{matrixShapes, functionShapes, matrixAt, function, colour, past, functionOf}
-use Rattle.message.specs.inner.Reading.{Taken, ChoiceFine, ChoiceTaken, matrixBy, functionBy, pairRow, fourRow, PairTaken, FunctionsTaken}
+use Rattle.message.specs.inner.Reading.{ChoiceFine, ChoiceTaken, matrixBy, functionBy, pairRow, PairTaken, FunctionsTaken}
 use Rattle.message.proofs.Gathered.{then-made}
 use Rattle.message.proofs.Joined.{joined, read-joined, pooled-joined}
 use Rattle.message.proofs.Taking.{IsWrong, wrong-taken, both-taken, taken-value}

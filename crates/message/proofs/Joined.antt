@@ -1,9 +1,8 @@
 -- A row that is two rows one after the other is read as they are.
 use mathlib.Core.Path.{_≡_, refl}
 use mathlib.Core.List.{List, [], _∷_, _++_, append-assoc}
-use lib.Ieee.{Float}
 use Rattle.number.specs.Words.{Words, Got, got, wrong, andThen}
-use Rattle.message.specs.Fields.{Field, Value, Values, readField, read, pooledBy, pooled}
+use Rattle.message.specs.Fields.{Field, Value, Values, readField, read, pooled}
 use Rattle.message.proofs.Gathered.{same-got, then-made}
 
 -- the values of both rows

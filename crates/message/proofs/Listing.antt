@@ -1,13 +1,13 @@
 -- A list is read number by number, and each is stored after those before it.
-use Prim.Native.Nat.{ℕ, zero, suc, _+_, _-_, _≤_, _<_, min}
-use mathlib.Core.Path.{_≡_, refl, sym, ap, _∙_}
+use Prim.Native.Nat.{ℕ, suc, _+_, _-_, _≤_, _<_, min}
+use mathlib.Core.Path.{_≡_, refl, sym, _∙_}
 use mathlib.Core.List.{List, [], _∷_, _++_, append-nil}
-use native.Mathlib.Nat.{add-zero, sub-zero}
+use native.Mathlib.Nat.{sub-zero}
 use native.Mathlib.Omega.{arith}
 use lib.ListN.{length, set, length-append}
 use lib.Seq.{sets}
 use lib.Ieee.{Float, binary32, ofBits}
-use Rattle.number.specs.Words.{word, stop, wordsAt, Got, got, wrong, andThen}
+use Rattle.number.specs.Words.{word, stop, wordsAt, Got, got, andThen}
 use Rattle.number.proofs.Stores.{sets-append}
 use Rattle.pool.specs.declared.Numbers.{Numbers}
 use Rattle.message.specs.declared.Place.{Place}

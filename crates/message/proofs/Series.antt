@@ -1,6 +1,6 @@
 -- The steps of a message one after the other: what was read so far stands before what the rest gives.
-use Prim.Native.Nat.{ℕ, zero, suc, _+_, _-_, _≤_, _<_}
-use mathlib.Core.Path.{_≡_, refl, sym, ap, _∙_}
+use Prim.Native.Nat.{ℕ, suc, _+_, _-_, _≤_, _<_}
+use mathlib.Core.Path.{_≡_, refl, sym, _∙_}
 use mathlib.Core.List.{List, [], _∷_, _++_, append-nil, append-assoc}
 use native.Mathlib.Nat.{sub-zero}
 use native.Mathlib.Omega.{arith}
@@ -10,14 +10,13 @@ use lib.Ieee.{Float}
 use Rattle.recipe.specs.declared.Step.{Step}
 use Rattle.number.specs.Words.{wordsAt, Got, got, wrong, andThen}
 use Rattle.number.proofs.Stores.{sets-append}
-use Rattle.message.specs.declared.Place.{Place}
-use Rattle.message.specs.declared.Place.the-variants.{At, Wrong}
+use Rattle.message.specs.declared.Place.the-variants.{At}
 use Rattle.message.specs.declared.StepRead.{StepRead}
 use Rattle.message.specs.declared.reading.StepsRead.{StepsRead}
-use Rattle.message.specs.Steps.{Read, readStep}
+use Rattle.message.specs.Steps.{readStep}
 use Rattle.message.specs.Message.{Content, empty, stepAnd, readSteps}
 use Rattle.message.specs.Answers.{blank}
-use Rattle.message.specs.inner.Reading.{OnAt, Room, Taken, StepTaken, StepsTaken, StepsFine}
+use Rattle.message.specs.inner.Reading.{Taken, StepTaken, StepsFine}
 use Rattle.message.proofs.Gathered.{same-got}
 use Rattle.message.proofs.Taking.{IsWrong, no-fact, no-room, got-made, got-wrong, taken-value, taken-held}
 

@@ -1,11 +1,11 @@
 -- Steps that were read are a message where they end with it, are few enough, and their numbers fit.
 use Prim.Native.Nat.{ℕ, zero, suc, _+_, _≤_, _<_}
 use mathlib.Core.Path.{_≡_, refl, sym, ap, _∙_}
-use mathlib.Core.Bool.{Bool, true, false, cond}
+use mathlib.Core.Bool.{Bool, true, false}
 use mathlib.Core.List.{List, [], _∷_}
 use native.Mathlib.Omega.{arith}
-use borrow.Author.Tests.{eqb-true, eqb-false, eq-eqb, ne-eqb, lt-ltb, le-ltb, ltb-false}
-use lib.Dec.{eqb, ltb}
+use borrow.Author.Tests.{eqb-true, eqb-false, eq-eqb, ne-eqb, lt-ltb, le-ltb}
+use lib.Dec.{eqb}
 use lib.ListN.{length, replicate}
 use lib.Seq.{sets}
 use lib.Ieee.{Float}
@@ -23,7 +23,7 @@ use Rattle.message.specs.declared.Place.the-variants.{At, Wrong}
 use Rattle.message.specs.declared.reading.Reading.{Reading}
 use Rattle.message.specs.declared.reading.StepsRead.{StepsRead}
 use Rattle.message.specs.Steps.{Read, readStep}
-use Rattle.message.specs.Message.{Content, empty, stepAnd, readSteps, Outcome, good, bad, whole, readMessage}
+use Rattle.message.specs.Message.{Content, empty, stepAnd, readSteps, good, bad, whole, readMessage}
 use Rattle.message.specs.Answers.{blank, recipeOf, roomOf, readAnswer, readingAnswer, ReadExactly}
 use Rattle.message.specs.inner.Reading.{StepsTaken, stepsAnswer}
 use Rattle.message.proofs.MessageAnswer.{the-type}

@@ -1,15 +1,14 @@
 -- A step with lists: a row of numbers, then the fields from the first list on.
 use Prim.Native.Nat.{ℕ, zero, suc, _≤_}
-use mathlib.Core.Path.{_≡_, refl, sym, _∙_}
+use mathlib.Core.Path.{_≡_, refl, _∙_}
 use mathlib.Core.Bool.{true, false}
-use mathlib.Core.List.{List, [], _∷_, _++_, append-nil}
+use mathlib.Core.List.{List, [], _∷_, append-nil}
 use native.Mathlib.Omega.{arith}
 use borrow.Author.Tests.{le-ltb}
 use lib.ListN.{length}
 use lib.Ieee.{Float, nan}
 use Rattle.morphology.specs.declared.operator.MorphologyOperator.the-variants.{Dilate}
 use Rattle.recipe.specs.declared.Work.the-variants.{Morphology}
-use Rattle.recipe.specs.declared.Step.{Step}
 use Rattle.number.specs.Words.{Words, word, stop, wordsAt, Got, got, wrong, andThen}
 use Rattle.message.specs.declared.Place.{Place}
 use Rattle.message.specs.declared.Place.the-variants.{At, Wrong}

@@ -7,7 +7,7 @@ use lib.Dec.{eqb}
 use lib.Ieee.{Float}
 use Rattle.recipe.specs.declared.Step.{Step}
 use Rattle.number.specs.Words.{Words, word, stop, wordsAt, bytesOf, Got, got, wrong, andThen, next}
-use Rattle.message.specs.Steps.{Parts, madeOf, pooledOf, wordsOf, Read, readStep}
+use Rattle.message.specs.Steps.{Parts, madeOf, pooledOf, wordsOf, readStep}
 
 -- steps, and the numbers that they have in the pool, end to end
 pub record Content : Type 0 where

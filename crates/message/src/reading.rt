@@ -15,6 +15,7 @@ use crate::plain::specular_lighting_at;
 use crate::plain::turbulence_at;
 use number::Number;
 use number::read_number;
+use number::reader;
 use recipe::Recipe;
 use recipe::STEP_LIMIT;
 use recipe::Step;
@@ -153,7 +154,7 @@ fn room_of(n: usize) -> usize
 pub fn read(message: &[u8], pool: &mut [f32]) -> Reading
     ensures { λ r. ⌜ ReadExactly (was message) pool r ⌝ }
 {
-    let Number::Value(n, at) = read_number(message, 0) else {
+    let Number::Value(n, at) = reader::first(message) else {
         return refused(MessageAnswer::Malformed(0));
     };
     let count = n as usize;

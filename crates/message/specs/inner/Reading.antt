@@ -1,13 +1,12 @@
 -- What the reader's private functions promise: what was read at a place, and what was stored in the pool meanwhile.
 use Prim.Native.Nat.{ℕ, zero, suc, _+_, _%_, _≤_}
 use mathlib.Core.Path.{_≡_}
-use mathlib.Core.Bool.{Bool, true, false, cond}
-use mathlib.Core.List.{List, [], _∷_, map}
+use mathlib.Core.Bool.{Bool, false, cond}
+use mathlib.Core.List.{List, [], _∷_}
 use lib.ListN.{length, getD, replicate}
 use lib.Seq.{sets}
 use lib.Dec.{eqb, ltb}
 use lib.Ieee.{Float}
-use Rattle.pool.specs.declared.Numbers.{Numbers}
 use Rattle.number.specs.Words.{Words, wordsAt, Got, got, wrong, andThen, next}
 use Rattle.message.specs.declared.Place.{Place}
 use Rattle.message.specs.declared.Place.the-variants.{At, Wrong}

@@ -35,7 +35,8 @@ loop-less c = search needs
 
 loop-again : tie.Need-loop-again Inv-loop μ-loop
 loop-again c =
-    let loop = c .before .before .before .before .before .loop in
+    let the-loop = c .before .before .before .before .before .loop in
+    let loop = the-loop in
     (search needs, wrote-as (wrote-then (loop .inv .1) (wrote-number (c .before .before .write-number .ensures))) (take-more _ (loop .i) 0 (search needs)) (omega arith))
 
 same-length : tie.Need-same-length Inv-loop μ-loop

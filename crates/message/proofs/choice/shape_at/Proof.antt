@@ -3,11 +3,6 @@ use Rattle.message.proofs.Choosing.{list-shape, floats-shape}
 use borrow.Author.Needs.{needs}
 use Rattle.message.proofs.choice.shape_at.Statement.{statement}
 use Rattle.message.proofs.choice.shape_at.Tie as tie
-use Rattle.message.proofs.choice.shape_at.Reads as reads
-use Rattle.message.proofs.choice.shape_at.Lts as lts
-use Rattle.message.proofs.block.block_at.Reads as block-at-reads
-use Rattle.message.proofs.lists.numbers_at.Reads as numbers-at-reads
-use Rattle.number.proofs.float_of.Reads as float-of-reads
 
 numbers-at-requires : tie.Need-numbers-at-requires
 numbers-at-requires c κs = search needs
@@ -16,7 +11,9 @@ same-length : tie.Need-same-length
 same-length c = search needs
 
 returns : tie.Need-returns
-returns c = list-shape _ _ _ _ (c .before .before .before .numbers-at .ensures) _ _ _ (c .before .before .before .before .before .if1 .taken)
+returns c =
+    let the-if1 = c .before .before .before .before .before .if1 in
+    list-shape _ _ _ _ (c .before .before .before .numbers-at .ensures) _ _ _ (the-if1 .taken)
 
 block-at-requires : tie.Need-block-at-requires
 block-at-requires c κs = search needs
@@ -34,7 +31,9 @@ float-of-requires-2 : tie.Need-float-of-requires-2
 float-of-requires-2 c κs = search needs
 
 returns-2 : tie.Need-returns-2
-returns-2 c = rw (c .before .float-of .ensures, c .float-of2 .ensures) (floats-shape _ _ _ _ _ (c .before .before .before .block-at .result) (c .before .before .before .before .before .before .before .pre .0) _ _ (c .before .before .before .before .before .before .before .pre .1) (c .before .before .before .before .if1 .left) (c .before .before .before .block-at .ensures))
+returns-2 c =
+    let the-pre = c .before .before .before .before .before .before .before .pre in
+    rw (c .before .float-of .ensures, c .float-of2 .ensures) (floats-shape _ _ _ _ _ (c .before .before .before .block-at .result) (the-pre .0) _ _ (the-pre .1) (c .before .before .before .before .if1 .left) (c .before .before .before .block-at .ensures))
 
 pub shape-at-spec : {M : Type 1} → statement M
 shape-at-spec =

@@ -2,8 +2,6 @@
 use Rattle.sheet.proofs.Answers.{tests}
 use Rattle.message.proofs.codes.channel_by.Statement.{statement}
 use Rattle.message.proofs.codes.channel_by.Tie as tie
-use Rattle.message.proofs.codes.channel_by.Reads as reads
-use Rattle.message.proofs.codes.channel_by.Lts as lts
 
 returns : tie.Need-returns
 returns c = search tests

@@ -9,11 +9,6 @@ use Rattle.message.proofs.WithLists.{block-room, head-wrong, tail-taken
 use borrow.Author.Needs.{needs}
 use Rattle.message.proofs.listed.component_transfer_at.Statement.{statement}
 use Rattle.message.proofs.listed.component_transfer_at.Tie as tie
-use Rattle.message.proofs.listed.component_transfer_at.Reads as reads
-use Rattle.message.proofs.listed.component_transfer_at.Lts as lts
-use Rattle.message.proofs.block.block_at.Reads as block-at-reads
-use Rattle.message.proofs.listed.functions_at.Reads as functions-at-reads
-use Rattle.message.proofs.no_step.Reads as no-step-reads
 
 block-at-requires : tie.Need-block-at-requires
 block-at-requires c κs = search needs
@@ -28,10 +23,15 @@ no-step-requires : tie.Need-no-step-requires
 no-step-requires c κs = search needs
 
 returns : tie.Need-returns
-returns c = head-wrong 3 refl _ _ _ (c .before .before .before .before .before .before .before .pre) (c .before .before .before .before .block-at .result) (c .before .before .before .before .block-at .ensures) _ _ (is-wrong (c .before .before .before .before .block-at .result .place) (c .before .before .match .keys2)) (c .no-step .ensures .0)
+returns c =
+    let the-pre = c .before .before .before .before .before .before .before .pre in
+    head-wrong 3 refl _ _ _ (the-pre) (c .before .before .before .before .block-at .result) (c .before .before .before .before .block-at .ensures) _ _ (is-wrong (c .before .before .before .before .block-at .result .place) (c .before .before .match .keys2)) (c .no-step .ensures .0)
 
 functions-at-requires : tie.Need-functions-at-requires
-functions-at-requires c κs = block-room (c .before .before .before .before .before .block-at .ensures) (c .before .before .before .before .before .before .before .before .pre) (c .before .before .place .given .1)
+functions-at-requires c κs =
+    let the-pre = c .before .before .before .before .before .before .before .before .pre in
+    let the-block-at = c .before .before .before .before .before .block-at in
+    block-room (the-block-at .ensures) (the-pre) (c .before .before .place .given .1)
 
 array-read-t21 : tie.Need-array-read-t21
 array-read-t21 c = search needs
@@ -44,7 +44,11 @@ same-length c = search needs
 
 returns-2 : tie.Need-returns-2
 unfolding firsts
-returns-2 c = tail-taken 3 refl _ _ _ (c .before .before .before .before .before .before .before .before .before .before .before .pre) (c .before .before .before .before .before .before .before .before .block-at .result) (c .before .before .before .before .before .before .before .before .block-at .ensures) (c .before .before .before .before .before .place .given .1) (c .before .before .functions-at .ensures) _ refl refl (λ vs l g. (ap (λ (w : Work). step w (getD (c .before .before .before .before .before .before .before .before .block-at .result .words) 1 0)) (g .0 (getD (c .before .before .before .before .before .before .before .before .block-at .result .words) 0 0)), g .1))
+returns-2 c =
+    let the-pre = c .before .before .before .before .before .before .before .before .before .before .before .pre in
+    let the-block-at = c .before .before .before .before .before .before .before .before .block-at in
+    let the-place = c .before .before .before .before .before .place in
+    tail-taken 3 refl _ _ _ (the-pre) (the-block-at .result) (the-block-at .ensures) (the-place .given .1) (c .before .before .functions-at .ensures) _ refl refl (λ vs l g. (ap (λ (w : Work). step w (getD (the-block-at .result .words) 1 0)) (g .0 (getD (the-block-at .result .words) 0 0)), g .1))
 
 pub component-transfer-at-spec : {M : Type 1} → statement M
 component-transfer-at-spec =

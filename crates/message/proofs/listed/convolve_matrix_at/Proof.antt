@@ -1,18 +1,11 @@
 -- Six numbers, then the kernel, then the divisor, the bias and two codes.
-use mathlib.Core.Path.{refl, ap, _∙_}
+use mathlib.Core.Path.{refl}
 use Rattle.message.specs.inner.Reading.{firsts}
 use Rattle.message.proofs.Taking.{is-wrong}
 use Rattle.message.proofs.WithLists.{block-room, head-wrong, tail-taken, kernel-wrong, kernel-taken}
 use borrow.Author.Needs.{needs}
 use Rattle.message.proofs.listed.convolve_matrix_at.Statement.{statement}
 use Rattle.message.proofs.listed.convolve_matrix_at.Tie as tie
-use Rattle.message.proofs.listed.convolve_matrix_at.Reads as reads
-use Rattle.message.proofs.listed.convolve_matrix_at.Lts as lts
-use Rattle.message.proofs.block.block_at.Reads as block-at-reads
-use Rattle.message.proofs.codes.edge_by.Reads as edge-by-reads
-use Rattle.message.proofs.lists.numbers_at.Reads as numbers-at-reads
-use Rattle.message.proofs.no_step.Reads as no-step-reads
-use Rattle.number.proofs.float_of.Reads as float-of-reads
 
 block-at-requires : tie.Need-block-at-requires
 block-at-requires c κs = search needs
@@ -27,10 +20,15 @@ no-step-requires : tie.Need-no-step-requires
 no-step-requires c κs = search needs
 
 returns : tie.Need-returns
-returns c = head-wrong 5 refl _ _ _ (c .before .before .before .before .before .before .before .pre) (c .before .before .before .before .block-at .result) (c .before .before .before .before .block-at .ensures) _ _ (is-wrong (c .before .before .before .before .block-at .result .place) (c .before .before .match .keys2)) (c .no-step .ensures .0)
+returns c =
+    let the-pre = c .before .before .before .before .before .before .before .pre in
+    head-wrong 5 refl _ _ _ (the-pre) (c .before .before .before .before .block-at .result) (c .before .before .before .before .block-at .ensures) _ _ (is-wrong (c .before .before .before .before .block-at .result .place) (c .before .before .match .keys2)) (c .no-step .ensures .0)
 
 numbers-at-requires : tie.Need-numbers-at-requires
-numbers-at-requires c κs = block-room (c .before .before .before .before .before .block-at .ensures) (c .before .before .before .before .before .before .before .before .pre) (c .before .before .place .given .1)
+numbers-at-requires c κs =
+    let the-pre = c .before .before .before .before .before .before .before .before .pre in
+    let the-block-at = c .before .before .before .before .before .block-at in
+    block-room (the-block-at .ensures) (the-pre) (c .before .before .place .given .1)
 
 enum-known-kernel-place : tie.Need-enum-known-kernel-place
 enum-known-kernel-place c = search needs
@@ -46,7 +44,12 @@ same-length c = search needs
 
 returns-2 : tie.Need-returns-2
 unfolding firsts
-returns-2 c = tail-taken 5 refl _ _ _ (c .before .before .before .before .before .before .before .before .before .before .before .before .before .before .before .pre) (c .before .before .before .before .before .before .before .before .before .before .before .before .block-at .result) (c .before .before .before .before .before .before .before .before .before .before .before .before .block-at .ensures) (c .before .before .before .before .before .before .before .before .before .place .given .1) (kernel-wrong _ _ _ (c .before .before .before .before .before .before .numbers-at .result) (c .before .before .before .before .before .before .numbers-at .ensures) {fine = λ v l. ⊥} (is-wrong (c .before .before .before .before .before .before .numbers-at .result .place) (c .before .before .match2 .keys2))) _ (c .no-step2 .ensures .0) (c .no-step2 .ensures .1) (λ vs l g. absurd g)
+returns-2 c =
+    let the-pre = c .before .before .before .before .before .before .before .before .before .before .before .before .before .before .before .pre in
+    let the-block-at = c .before .before .before .before .before .before .before .before .before .before .before .before .block-at in
+    let the-place = c .before .before .before .before .before .before .before .before .before .place in
+    let the-numbers-at = c .before .before .before .before .before .before .numbers-at in
+    tail-taken 5 refl _ _ _ (the-pre) (the-block-at .result) (the-block-at .ensures) (the-place .given .1) (kernel-wrong _ _ _ (the-numbers-at .result) (the-numbers-at .ensures) {fine = λ v l. ⊥} (is-wrong (the-numbers-at .result .place) (c .before .before .match2 .keys2))) _ (c .no-step2 .ensures .0) (c .no-step2 .ensures .1) (λ vs l g. absurd g)
 
 block-at-requires-2 : tie.Need-block-at-requires-2
 block-at-requires-2 c κs = search needs
@@ -95,7 +98,13 @@ same-length-2 c = search needs
 
 returns-3 : tie.Need-returns-3
 unfolding firsts
-returns-3 c = tail-taken 5 refl _ _ _ (c .before .before .before .before .before .before .before .before .before .before .before .before .before .before .before .before .before .before .before .before .pre) (c .before .before .before .before .before .before .before .before .before .before .before .before .before .before .before .before .before .block-at .result) (c .before .before .before .before .before .before .before .before .before .before .before .before .before .before .before .before .before .block-at .ensures) (c .before .before .before .before .before .before .before .before .before .before .before .before .before .before .place .given .1) (kernel-taken _ _ _ (c .before .before .before .before .before .before .before .before .before .before .before .numbers-at .result) (c .before .before .before .before .before .before .before .before .before .before .before .numbers-at .ensures) (c .before .before .before .before .before .before .kernel-place .given .1) (c .before .before .before .before .block-at2 .result) (c .before .before .before .before .block-at2 .ensures)) _ refl refl (λ vs l g. (rw (g .0, g .1 .0, c .before .before .float-of .ensures, c .before .float-of2 .ensures, c .edge-by .ensures), g .1 .1))
+returns-3 c =
+    let the-pre = c .before .before .before .before .before .before .before .before .before .before .before .before .before .before .before .before .before .before .before .before .pre in
+    let the-block-at = c .before .before .before .before .before .before .before .before .before .before .before .before .before .before .before .before .before .block-at in
+    let the-place = c .before .before .before .before .before .before .before .before .before .before .before .before .before .before .place in
+    let the-numbers-at = c .before .before .before .before .before .before .before .before .before .before .before .numbers-at in
+    let the-kernel-place = c .before .before .before .before .before .before .kernel-place in
+    tail-taken 5 refl _ _ _ (the-pre) (the-block-at .result) (the-block-at .ensures) (the-place .given .1) (kernel-taken _ _ _ (the-numbers-at .result) (the-numbers-at .ensures) (the-kernel-place .given .1) (c .before .before .before .before .block-at2 .result) (c .before .before .before .before .block-at2 .ensures)) _ refl refl (λ vs l g. (rw (g .0, g .1 .0, c .before .before .float-of .ensures, c .before .float-of2 .ensures, c .edge-by .ensures), g .1 .1))
 
 pub convolve-matrix-at-spec : {M : Type 1} → statement M
 convolve-matrix-at-spec =

@@ -5,10 +5,6 @@ use Rattle.message.proofs.Functions.{pair-wrong, pair-both, functions-k
 use borrow.Author.Needs.{needs}
 use Rattle.message.proofs.listed.pair_at.Statement.{statement}
 use Rattle.message.proofs.listed.pair_at.Tie as tie
-use Rattle.message.proofs.listed.pair_at.Reads as reads
-use Rattle.message.proofs.listed.pair_at.Lts as lts
-use Rattle.message.proofs.choice.choice_at.Reads as choice-at-reads
-use Rattle.message.proofs.choice.function_of.Reads as function-of-reads
 
 choice-at-requires : tie.Need-choice-at-requires
 choice-at-requires c κs = (search needs, (refl, functions-known))
@@ -26,10 +22,14 @@ same-length : tie.Need-same-length
 same-length c = search needs
 
 returns : tie.Need-returns
-returns c = pair-wrong _ _ _ (c .before .before .before .before .before .choice-at .result) (c .before .before .before .before .before .choice-at .ensures) _ (is-wrong (c .before .before .before .before .before .choice-at .result .place) (c .before .match .keys2)) refl
+returns c =
+    let the-choice-at = c .before .before .before .before .before .choice-at in
+    pair-wrong _ _ _ (the-choice-at .result) (the-choice-at .ensures) _ (is-wrong (the-choice-at .result .place) (c .before .match .keys2)) refl
 
 choice-at-requires-2 : tie.Need-choice-at-requires-2
-choice-at-requires-2 c κs = (taken-room (c .before .before .before .before .before .before .before .choice-at .ensures) (c .before .before .place .given .1), (refl, functions-known))
+choice-at-requires-2 c κs =
+    let the-choice-at = c .before .before .before .before .before .before .before .choice-at in
+    (taken-room (the-choice-at .ensures) (c .before .before .place .given .1), (refl, functions-known))
 
 function-of-requires-2 : tie.Need-function-of-requires-2
 function-of-requires-2 c κs = search needs
@@ -38,7 +38,11 @@ same-length-2 : tie.Need-same-length-2
 same-length-2 c = search needs
 
 returns-2 : tie.Need-returns-2
-returns-2 c = rw (c .before .before .before .before .before .before .before .before .function-of .ensures, c .function-of2 .ensures) (pair-both _ _ _ (c .before .before .before .before .before .before .before .before .before .before .before .choice-at .result) (c .before .before .before .before .before .before .before .before .before .before .before .choice-at .ensures) (c .before .before .before .before .before .before .place .given .1) (c .before .before .before .choice-at2 .result) (c .before .before .before .choice-at2 .ensures))
+returns-2 c =
+    let the-choice-at = c .before .before .before .before .before .before .before .before .before .before .before .choice-at in
+    let the-function-of = c .before .before .before .before .before .before .before .before .function-of in
+    let the-place = c .before .before .before .before .before .before .place in
+    rw (the-function-of .ensures, c .function-of2 .ensures) (pair-both _ _ _ (the-choice-at .result) (the-choice-at .ensures) (the-place .given .1) (c .before .before .before .choice-at2 .result) (c .before .before .before .choice-at2 .ensures))
 
 pub pair-at-spec : {M : Type 1} → statement M
 pair-at-spec =

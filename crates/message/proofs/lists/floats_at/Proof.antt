@@ -1,21 +1,14 @@
 -- The invariant: i numbers were read and stored, and what was read, then the rest, is what is wanted.
 use Prim.Native.Nat.{_+_, _-_, _≤_}
-use mathlib.Core.Path.{_≡_, refl, ap, _∙_}
-use native.Mathlib.Omega.{arith}
+use mathlib.Core.Path.{_≡_, refl}
 use borrow.Author.Needs.{needs}
 use lib.ListN.{length, length-set}
-use lib.Seq.{length-sets}
 use Rattle.number.specs.Words.{wordsAt}
 use Rattle.number.proofs.Words.{here, nothing, on}
 use Rattle.message.specs.Fields.{readFloats}
 use Rattle.message.proofs.Listing.{Going, going-first, going-stop, going-done, going-next}
 use Rattle.message.proofs.lists.floats_at.Statement.{statement}
 use Rattle.message.proofs.lists.floats_at.Tie as tie
-use Rattle.message.proofs.lists.floats_at.Reads as reads
-use Rattle.message.proofs.lists.floats_at.Lts as lts
-use Rattle.message.proofs.lists.put.Reads as put-reads
-use Rattle.number.proofs.read_number.Reads as read-number-reads
-use Rattle.number.proofs.float_of.Reads as float-of-reads
 
 abbrev Inv-loop : tie.InvT-loop
 Inv-loop message at count pool₀ used i₀ place₀ pool i place = ((i ≤ count) × ((at + i ≤ place) × (length pool ≡ length pool₀))) × Going message (readFloats count (wordsAt message at)) count used pool₀ pool place i
@@ -42,7 +35,9 @@ returns : tie.Need-returns Inv-loop μ-loop
 returns c = going-stop (c .before .before .before .before .loop .inv .1) (c .before .before .before .loop-test .taken) (nothing _ _ (c .before .before .read-number .ensures) (c .before .match .keys2))
 
 add-put : tie.Need-add-put Inv-loop μ-loop
-add-put c = let o = on _ _ (c .before .before .before .before .read-number .ensures) (c .before .before .n .given .1) in search needs
+add-put c =
+    let o = on _ _ (c .before .before .before .before .read-number .ensures) (c .before .before .n .given .1) in
+    search needs
 
 float-of-requires : tie.Need-float-of-requires Inv-loop μ-loop
 float-of-requires c κs = search needs
@@ -57,7 +52,13 @@ loop-less : tie.Need-loop-less Inv-loop μ-loop
 loop-less c = search needs
 
 loop-again : tie.Need-loop-again Inv-loop μ-loop
-loop-again c = let o = on _ _ (c .before .before .before .before .before .before .before .before .read-number .ensures) (c .before .before .before .before .before .before .n .given .1) in ((search needs, (search needs, rw (c .before .before .put .ensures) (simp length-set (c .before .before .before .before .before .before .before .before .before .before .loop .inv .0 .1 .1)))), rw (c .before .before .put .ensures, c .before .before .before .float-of .ensures) (going-next (c .before .before .before .before .before .before .before .before .before .before .loop .inv .1) (c .before .before .before .before .before .before .before .before .before .loop-test .taken) _ _ (here _ _ (c .before .before .before .before .before .before .before .before .read-number .ensures) (c .before .before .before .before .before .before .n .given .1))))
+loop-again c =
+    let the-loop = c .before .before .before .before .before .before .before .before .before .before .loop in
+    let the-loop-test = c .before .before .before .before .before .before .before .before .before .loop-test in
+    let the-read-number = c .before .before .before .before .before .before .before .before .read-number in
+    let the-n = c .before .before .before .before .before .before .n in
+    let o = on _ _ (the-read-number .ensures) (the-n .given .1) in
+    ((search needs, (search needs, rw (c .before .before .put .ensures) (simp length-set (the-loop .inv .0 .1 .1)))), rw (c .before .before .put .ensures, c .before .before .before .float-of .ensures) (going-next (the-loop .inv .1) (the-loop-test .taken) _ _ (here _ _ (the-read-number .ensures) (the-n .given .1))))
 
 same-length-2 : tie.Need-same-length-2 Inv-loop μ-loop
 same-length-2 c = search needs

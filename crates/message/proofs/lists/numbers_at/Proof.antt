@@ -1,7 +1,5 @@
 -- A count, then so many numbers.
-use mathlib.Core.Path.{refl, _∙_}
 use mathlib.Core.List.{[]}
-use native.Mathlib.Omega.{arith}
 use Rattle.number.specs.Words.{got}
 use Rattle.number.proofs.Words.{here, nothing, on}
 use Rattle.message.specs.Fields.{readNumbers}
@@ -11,11 +9,6 @@ use Rattle.message.proofs.Taking.{is-wrong, nothing-taken, wrong-taken,
 use borrow.Author.Needs.{needs}
 use Rattle.message.proofs.lists.numbers_at.Statement.{statement}
 use Rattle.message.proofs.lists.numbers_at.Tie as tie
-use Rattle.message.proofs.lists.numbers_at.Reads as reads
-use Rattle.message.proofs.lists.numbers_at.Lts as lts
-use Rattle.message.proofs.lists.floats_at.Reads as floats-at-reads
-use Rattle.message.proofs.lists.start_of.Reads as start-of-reads
-use Rattle.number.proofs.read_number.Reads as read-number-reads
 
 start-of-requires : tie.Need-start-of-requires
 start-of-requires c κs = search needs
@@ -37,7 +30,9 @@ cast-floats-at : tie.Need-cast-floats-at
 cast-floats-at c = search needs
 
 floats-at-requires : tie.Need-floats-at-requires
-floats-at-requires c κs = let o = on _ _ (c .before .before .before .before .read-number .ensures) (c .before .before .count .given .1) in search needs
+floats-at-requires c κs =
+    let o = on _ _ (c .before .before .before .before .read-number .ensures) (c .before .before .count .given .1) in
+    search needs
 
 enum-known-place : tie.Need-enum-known-place
 enum-known-place c = search needs
@@ -50,20 +45,31 @@ same-length c = search needs
 
 returns-2 : tie.Need-returns-2
 unfolding readNumbers
-returns-2 c = wrong-taken (c .before .before .before .before .floats-at .ensures) [] (λ a rest. got a rest) (is-wrong (c .before .before .before .before .floats-at .result) (c .before .match2 .keys2)) (rw (here _ _ (c .before .before .before .before .before .before .before .before .before .read-number .ensures) (c .before .before .before .before .before .before .before .count .given .1)) (same-got _))
+returns-2 c =
+    let the-read-number = c .before .before .before .before .before .before .before .before .before .read-number in
+    let the-count = c .before .before .before .before .before .before .before .count in
+    wrong-taken (c .before .before .before .before .floats-at .ensures) [] (λ a rest. got a rest) (is-wrong (c .before .before .before .before .floats-at .result) (c .before .match2 .keys2)) (rw (here _ _ (the-read-number .ensures) (the-count .given .1)) (same-got _))
 
 cast-t14 : tie.Need-cast-t14
 cast-t14 c = search needs
 
 add-t17 : tie.Need-add-t17
-add-t17 c = let r = taken-room (c .before .before .before .before .before .floats-at .ensures) (c .before .place .given .1) in search needs
+add-t17 c =
+    let the-floats-at = c .before .before .before .before .before .floats-at in
+    let r = taken-room (the-floats-at .ensures) (c .before .place .given .1) in
+    search needs
 
 same-length-2 : tie.Need-same-length-2
 same-length-2 c = search needs
 
 returns-3 : tie.Need-returns-3
 unfolding readNumbers
-returns-3 c = rw (here _ _ (c .before .before .before .before .before .before .before .before .before .before .read-number .ensures) (c .before .before .before .before .before .before .before .before .count .given .1)) (range-taken (c .before .before .before .before .before .floats-at .ensures) (c .before .place .given .1) (c .before .before .before .before .before .before .before .before .before .before .before .start-of .ensures))
+returns-3 c =
+    let the-start-of = c .before .before .before .before .before .before .before .before .before .before .before .start-of in
+    let the-read-number = c .before .before .before .before .before .before .before .before .before .before .read-number in
+    let the-count = c .before .before .before .before .before .before .before .before .count in
+    let the-floats-at = c .before .before .before .before .before .floats-at in
+    rw (here _ _ (the-read-number .ensures) (the-count .given .1)) (range-taken (the-floats-at .ensures) (c .before .place .given .1) (the-start-of .ensures))
 
 pub numbers-at-spec : {M : Type 1} → statement M
 numbers-at-spec =

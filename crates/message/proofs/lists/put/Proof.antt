@@ -4,8 +4,6 @@ use lib.Seq.{set-out}
 use borrow.Author.Needs.{needs}
 use Rattle.message.proofs.lists.put.Statement.{statement}
 use Rattle.message.proofs.lists.put.Tie as tie
-use Rattle.message.proofs.lists.put.Reads as reads
-use Rattle.message.proofs.lists.put.Lts as lts
 
 mul-pool : tie.Need-mul-pool
 mul-pool c = search needs

@@ -37,7 +37,10 @@ bits-of-requires : tie.Need-bits-of-requires Inv-loop μ-loop
 bits-of-requires c κs = search needs
 
 write-number-requires-2 : tie.Need-write-number-requires-2 Inv-loop μ-loop
-write-number-requires-2 c κs = let count = wrote-number (c .before .before .before .before .before .before .before .write-number .ensures) in omega (arith, count .bounded, c .before .before .before .before .loop .inv .1 .bounded)
+write-number-requires-2 c κs =
+    let the-write-number = c .before .before .before .before .before .before .before .write-number in
+    let count = wrote-number (the-write-number .ensures) in
+    omega (arith, count .bounded, c .before .before .before .before .loop .inv .1 .bounded)
 
 add-i : tie.Need-add-i Inv-loop μ-loop
 add-i c = search needs
@@ -47,7 +50,8 @@ loop-less c = search needs
 
 loop-again : tie.Need-loop-again Inv-loop μ-loop
 loop-again c =
-    let loop = c .before .before .before .before .before .before .before .loop in
+    let the-loop = c .before .before .before .before .before .before .before .loop in
+    let loop = the-loop in
     (search needs, wrote-as (wrote-then (loop .inv .1) (wrote-number (c .before .before .write-number2 .ensures))) (bits-more _ (loop .i) nan (c .before .before .before .bits-of .ensures) (search needs)) (omega arith))
 
 same-length : tie.Need-same-length Inv-loop μ-loop
@@ -55,9 +59,10 @@ same-length c = wrote-length (c .before .loop .inv .1) ∙ wrote-length (wrote-n
 
 returns : tie.Need-returns Inv-loop μ-loop
 returns c =
+    let the-args = c .before .before .before .before .before .before .before .before .args in
     let loop = c .before .loop in
     let all = wrote-then (wrote-number (c .before .before .before .before .write-number .ensures)) (loop .inv .1) in
-    (rw (← bits-all (c .before .before .before .before .before .before .before .before .args .numbers .now) (loop .i) (search needs)) (all .put), omega (arith, all .bounded))
+    (rw (← bits-all (the-args .numbers .now) (loop .i) (search needs)) (all .put), omega (arith, all .bounded))
 
 pub write-numbers-spec : {M : Type 1} → statement M
 write-numbers-spec =

@@ -71,7 +71,14 @@ array-read-t22 c = search needs
 
 returns : tie.Need-returns
 unfolding firsts
-returns c = plain-taken 8 refl tt (c .before .before .before .before .before .before .before .before .before .before .block-at .ensures) (c .before .before .before .before .before .before .before .before .before .before .before .before .pre) _ (rw (c .before .before .light-by .ensures, c .before .before .before .before .before .float-of .ensures, c .before .before .before .before .float-of2 .ensures, c .before .before .before .float-of3 .ensures, c .before .float-of4 .ensures, c .float-of5 .ensures, c .before .before .before .before .before .before .before .before .byte-of .ensures, c .before .before .before .before .before .before .before .byte-of2 .ensures, c .before .before .before .before .before .before .byte-of3 .ensures))
+returns c =
+    let the-pre = c .before .before .before .before .before .before .before .before .before .before .before .before .pre in
+    let the-block-at = c .before .before .before .before .before .before .before .before .before .before .block-at in
+    let the-byte-of = c .before .before .before .before .before .before .before .before .byte-of in
+    let the-byte-of2 = c .before .before .before .before .before .before .before .byte-of2 in
+    let the-byte-of3 = c .before .before .before .before .before .before .byte-of3 in
+    let the-float-of = c .before .before .before .before .before .float-of in
+    plain-taken 8 refl tt (the-block-at .ensures) (the-pre) _ (rw (c .before .before .light-by .ensures, the-float-of .ensures, c .before .before .before .before .float-of2 .ensures, c .before .before .before .float-of3 .ensures, c .before .float-of4 .ensures, c .float-of5 .ensures, the-byte-of .ensures, the-byte-of2 .ensures, the-byte-of3 .ensures))
 
 pub diffuse-lighting-at-spec : {M : Type 1} → statement M
 diffuse-lighting-at-spec =

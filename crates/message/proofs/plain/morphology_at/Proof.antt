@@ -35,7 +35,9 @@ array-read-t11-2 c = search needs
 
 returns : tie.Need-returns
 unfolding firsts
-returns c = plain-taken 1 refl tt (c .before .before .before .before .block-at .ensures) (c .before .before .before .before .before .before .pre) _ (rw (c .before .before .operator-by .ensures, c .before .float-of .ensures, c .float-of2 .ensures))
+returns c =
+    let the-pre = c .before .before .before .before .before .before .pre in
+    plain-taken 1 refl tt (c .before .before .before .before .block-at .ensures) (the-pre) _ (rw (c .before .before .operator-by .ensures, c .before .float-of .ensures, c .float-of2 .ensures))
 
 pub morphology-at-spec : {M : Type 1} → statement M
 morphology-at-spec =

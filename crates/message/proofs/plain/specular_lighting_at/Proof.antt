@@ -77,7 +77,15 @@ array-read-t14-2 c = search needs
 
 returns : tie.Need-returns
 unfolding firsts
-returns c = plain-taken 9 refl tt (c .before .before .before .before .before .before .before .before .before .before .before .block-at .ensures) (c .before .before .before .before .before .before .before .before .before .before .before .before .before .pre) _ (rw (c .before .before .before .light-by .ensures, c .before .before .before .before .before .before .float-of .ensures, c .before .before .before .before .before .float-of2 .ensures, c .before .before .before .before .float-of3 .ensures, c .before .before .float-of4 .ensures, c .before .float-of5 .ensures, c .float-of6 .ensures, c .before .before .before .before .before .before .before .before .before .byte-of .ensures, c .before .before .before .before .before .before .before .before .byte-of2 .ensures, c .before .before .before .before .before .before .before .byte-of3 .ensures))
+returns c =
+    let the-pre = c .before .before .before .before .before .before .before .before .before .before .before .before .before .pre in
+    let the-block-at = c .before .before .before .before .before .before .before .before .before .before .before .block-at in
+    let the-byte-of = c .before .before .before .before .before .before .before .before .before .byte-of in
+    let the-byte-of2 = c .before .before .before .before .before .before .before .before .byte-of2 in
+    let the-byte-of3 = c .before .before .before .before .before .before .before .byte-of3 in
+    let the-float-of = c .before .before .before .before .before .before .float-of in
+    let the-float-of2 = c .before .before .before .before .before .float-of2 in
+    plain-taken 9 refl tt (the-block-at .ensures) (the-pre) _ (rw (c .before .before .before .light-by .ensures, the-float-of .ensures, the-float-of2 .ensures, c .before .before .before .before .float-of3 .ensures, c .before .before .float-of4 .ensures, c .before .float-of5 .ensures, c .float-of6 .ensures, the-byte-of .ensures, the-byte-of2 .ensures, the-byte-of3 .ensures))
 
 pub specular-lighting-at-spec : {M : Type 1} → statement M
 specular-lighting-at-spec =

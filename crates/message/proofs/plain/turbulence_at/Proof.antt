@@ -82,7 +82,12 @@ array-read-t12 c = search needs
 
 returns : tie.Need-returns
 unfolding firsts
-returns c = plain-taken 7 refl tt (c .before .before .before .before .before .before .before .before .block-at .ensures) (c .before .before .before .before .before .before .before .before .before .before .pre) _ (rw (c .before .before .before .before .before .before .double-of .ensures, c .before .before .before .before .before .double-of2 .ensures, c .before .before .before .before .double-of3 .ensures, c .before .before .before .double-of4 .ensures, c .before .before .double-of5 .ensures, c .before .double-of6 .ensures, toZ-ofZ w32 (c .seed-of .result) (record { sfits = c .seed-of .ok }), c .seed-of .ensures))
+returns c =
+    let the-pre = c .before .before .before .before .before .before .before .before .before .before .pre in
+    let the-block-at = c .before .before .before .before .before .before .before .before .block-at in
+    let the-double-of = c .before .before .before .before .before .before .double-of in
+    let the-double-of2 = c .before .before .before .before .before .double-of2 in
+    plain-taken 7 refl tt (the-block-at .ensures) (the-pre) _ (rw (the-double-of .ensures, the-double-of2 .ensures, c .before .before .before .before .double-of3 .ensures, c .before .before .before .double-of4 .ensures, c .before .before .double-of5 .ensures, c .before .double-of6 .ensures, toZ-ofZ w32 (c .seed-of .result) (record { sfits = c .seed-of .ok }), c .seed-of .ensures))
 
 pub turbulence-at-spec : {M : Type 1} → statement M
 turbulence-at-spec =

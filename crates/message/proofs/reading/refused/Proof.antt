@@ -3,9 +3,6 @@ use mathlib.Core.Path.{refl}
 use borrow.Author.Needs.{needs}
 use Rattle.message.proofs.reading.refused.Statement.{statement}
 use Rattle.message.proofs.reading.refused.Tie as tie
-use Rattle.message.proofs.reading.refused.Reads as reads
-use Rattle.message.proofs.reading.refused.Lts as lts
-use Rattle.message.proofs.blank.Reads as blank-reads
 
 blank-requires : tie.Need-blank-requires
 blank-requires c κs = search needs

@@ -4,7 +4,7 @@ use mathlib.Core.Path.{_≡_, refl, sym, ap, _∙_}
 use mathlib.Core.Logic.{⊎-elim}
 use native.Mathlib.Omega.{arith}
 use borrow.Author.Needs.{needs}
-use lib.ListN.{length, set, length-set}
+use lib.ListN.{length}
 use lib.Seq.{length-sets, set-out}
 use Rattle.number.specs.Words.{wordsAt}
 use Rattle.message.specs.Message.{readSteps}
@@ -12,10 +12,6 @@ use Rattle.message.proofs.Taking.{is-wrong, taken-room}
 use Rattle.message.proofs.Series.{Going, going-first, going-wrong, going-next, going-done}
 use Rattle.message.proofs.reading.steps_at.Statement.{statement}
 use Rattle.message.proofs.reading.steps_at.Tie as tie
-use Rattle.message.proofs.reading.steps_at.Reads as reads
-use Rattle.message.proofs.reading.steps_at.Lts as lts
-use Rattle.message.proofs.blank.Reads as blank-reads
-use Rattle.message.proofs.reading.step_at.Reads as step-at-reads
 
 abbrev Inv-loop : tie.InvT-loop
 Inv-loop message at count pool₀ steps₀ used₀ place₀ i₀ pool steps used place i = ((i ≤ count) × ((used ≤ place) × (length pool ≡ length pool₀))) × Going message (readSteps count 0 (wordsAt message at)) count pool₀ pool steps used place i
@@ -42,7 +38,10 @@ same-length : tie.Need-same-length Inv-loop μ-loop
 same-length c = search needs
 
 returns : tie.Need-returns Inv-loop μ-loop
-returns c = going-wrong (c .before .before .before .before .before .before .before .loop .inv .1) (c .before .before .before .before .before .before .loop-test .taken) (c .before .before .before .before .step-at .result) (c .before .before .before .before .step-at .ensures) _ (is-wrong (c .before .before .before .before .step-at .result .place) (c .before .match .keys2)) refl
+returns c =
+    let the-loop = c .before .before .before .before .before .before .before .loop in
+    let the-loop-test = c .before .before .before .before .before .before .loop-test in
+    going-wrong (the-loop .inv .1) (the-loop-test .taken) (c .before .before .before .before .step-at .result) (c .before .before .before .before .step-at .ensures) _ (is-wrong (c .before .before .before .before .step-at .result .place) (c .before .match .keys2)) refl
 
 mul-steps : tie.Need-mul-steps Inv-loop μ-loop
 mul-steps c = search needs
@@ -57,7 +56,13 @@ loop-less : tie.Need-loop-less Inv-loop μ-loop
 loop-less c = search needs
 
 loop-again : tie.Need-loop-again Inv-loop μ-loop
-loop-again c = let n : length (c .before .before .before .before .before .before .before .before .before .before .loop .steps) ≡ 16 = ap length (c .before .before .before .before .before .before .before .before .before .before .loop .inv .1 .laid) ∙ simp length-sets in let r = taken-room (c .before .before .before .before .before .before .before .step-at .ensures) (c .before .before .before .after .given .1) in ((search needs, (search needs, rw (c .before .before .before .before .before .before .before .step-at .ensures .stored) (simp length-sets (c .before .before .before .before .before .before .before .before .before .before .loop .inv .0 .1 .1)))), going-next (c .before .before .before .before .before .before .before .before .before .before .loop .inv .1) (c .before .before .before .before .before .before .before .before .before .loop-test .taken) (c .before .before .before .before .before .before .before .step-at .result) (c .before .before .before .before .before .before .before .step-at .ensures) _ (c .before .before .before .after .given .1) (⊎-elim (λ w. w .1) (λ w. w .1 ∙ sym (set-out (c .before .before .before .before .before .before .before .before .before .before .loop .steps) (c .before .before .before .before .before .before .before .before .before .before .loop .i) _ (let k = w .0 .left in omega arith))) (c .if1 .came)))
+loop-again c =
+    let the-loop = c .before .before .before .before .before .before .before .before .before .before .loop in
+    let the-loop-test = c .before .before .before .before .before .before .before .before .before .loop-test in
+    let the-step-at = c .before .before .before .before .before .before .before .step-at in
+    let n : length (the-loop .steps) ≡ 16 = ap length (the-loop .inv .1 .laid) ∙ simp length-sets in
+    let r = taken-room (the-step-at .ensures) (c .before .before .before .after .given .1) in
+    ((search needs, (search needs, rw (the-step-at .ensures .stored) (simp length-sets (the-loop .inv .0 .1 .1)))), going-next (the-loop .inv .1) (the-loop-test .taken) (the-step-at .result) (the-step-at .ensures) _ (c .before .before .before .after .given .1) (⊎-elim (λ w. w .1) (λ w. w .1 ∙ sym (set-out (the-loop .steps) (the-loop .i) _ (let k = w .0 .left in omega arith))) (c .if1 .came)))
 
 same-length-2 : tie.Need-same-length-2 Inv-loop μ-loop
 same-length-2 c = search needs

@@ -40,21 +40,27 @@ same-length-2 c = search needs
 
 returns-2 : tie.Need-returns-2
 unfolding writeShape writeField
-returns-2 c = rw (c .before .before .before .before .before .transfer .given .1) (c .before .before .list-into .ensures)
+returns-2 c =
+    let the-transfer = c .before .before .before .before .before .transfer in
+    rw (the-transfer .given .1) (c .before .before .list-into .ensures)
 
 same-length-3 : tie.Need-same-length-3
 same-length-3 c = search needs
 
 returns-3 : tie.Need-returns-3
 unfolding writeShape writeField
-returns-3 c = rw (c .before .before .before .before .before .transfer2 .given .1) (c .before .before .list-into2 .ensures)
+returns-3 c =
+    let the-transfer2 = c .before .before .before .before .before .transfer2 in
+    rw (the-transfer2 .given .1) (c .before .before .list-into2 .ensures)
 
 same-length-4 : tie.Need-same-length-4
 same-length-4 c = search needs
 
 returns-4 : tie.Need-returns-4
 unfolding writeShape writeField
-returns-4 c = rw (c .before .before .before .before .before .transfer3 .given .1) (c .before .before .plain-into2 .ensures)
+returns-4 c =
+    let the-transfer3 = c .before .before .before .before .before .transfer3 in
+    rw (the-transfer3 .given .1) (c .before .before .plain-into2 .ensures)
 
 pub function-into-spec : {M : Type 1} → statement M
 function-into-spec =

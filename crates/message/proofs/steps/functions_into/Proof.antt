@@ -24,7 +24,11 @@ same-length c = search needs
 
 returns : tie.Need-returns
 unfolding write
-returns c = wrote-as (wrote-then (c .before .before .before .before .before .before .before .before .before .before .before .before .before .before .function-into .ensures) (wrote-then (c .before .before .before .before .before .before .before .before .before .before .function-into2 .ensures) (wrote-then (c .before .before .before .before .before .before .function-into3 .ensures) (c .before .before .function-into4 .ensures)))) (rw append-nil) (omega arith)
+returns c =
+    let the-function-into = c .before .before .before .before .before .before .before .before .before .before .before .before .before .before .function-into in
+    let the-function-into2 = c .before .before .before .before .before .before .before .before .before .before .function-into2 in
+    let the-function-into3 = c .before .before .before .before .before .before .function-into3 in
+    wrote-as (wrote-then (the-function-into .ensures) (wrote-then (the-function-into2 .ensures) (wrote-then (the-function-into3 .ensures) (c .before .before .function-into4 .ensures)))) (rw append-nil) (omega arith)
 
 pub functions-into-spec : {M : Type 1} → statement M
 functions-into-spec =

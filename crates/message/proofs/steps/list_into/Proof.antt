@@ -17,7 +17,8 @@ part-requires c κs = search needs
 
 write-numbers-requires : tie.Need-write-numbers-requires
 write-numbers-requires c κs =
-    let args = c .before .before .before .before .before .before .before .before .args in
+    let the-args = c .before .before .before .before .before .before .before .before .args in
+    let args = the-args in
     let few = numbers-few (args .range) (args .pool .now) (c .part .ensures) in
     let kind = wrote-number (c .before .before .before .before .write-number .ensures) in
     omega (arith, kind .bounded)
@@ -27,10 +28,12 @@ same-length c = search needs
 
 returns : tie.Need-returns
 returns c =
-    let args = c .before .before .before .before .before .before .before .before .before .before .before .args in
+    let the-args = c .before .before .before .before .before .before .before .before .before .before .before .args in
+    let the-write-number = c .before .before .before .before .before .before .before .write-number in
+    let args = the-args in
     let few = numbers-few (args .range) (args .pool .now) (c .before .before .before .part .ensures) in
     let list = c .before .before .write-numbers .ensures in
-    wrote-as (wrote-then (wrote-number (c .before .before .before .before .before .before .before .write-number .ensures)) (wrote 21474836480 (list .0) (omega (arith, list .1)))) (ap (λ l. args .kind ∷ writeNumbers l) (c .before .before .before .part .ensures)) (omega arith)
+    wrote-as (wrote-then (wrote-number (the-write-number .ensures)) (wrote 21474836480 (list .0) (omega (arith, list .1)))) (ap (λ l. args .kind ∷ writeNumbers l) (c .before .before .before .part .ensures)) (omega arith)
 
 pub list-into-spec : {M : Type 1} → statement M
 list-into-spec =

@@ -32,19 +32,25 @@ same-length c = search needs
 
 returns : tie.Need-returns
 unfolding write
-returns c = rw (c .before .before .before .before .before .work .given .1) (wrote-as (c .before .before .matrix-into .ensures) (rw append-nil) (omega arith))
+returns c =
+    let the-work = c .before .before .before .before .before .work in
+    rw (the-work .given .1) (wrote-as (c .before .before .matrix-into .ensures) (rw append-nil) (omega arith))
 
 same-length-2 : tie.Need-same-length-2
 same-length-2 c = search needs
 
 returns-2 : tie.Need-returns-2
-returns-2 c = rw (c .before .before .before .before .before .work2 .given .1) (c .before .before .functions-into .ensures)
+returns-2 c =
+    let the-work2 = c .before .before .before .before .before .work2 in
+    rw (the-work2 .given .1) (c .before .before .functions-into .ensures)
 
 same-length-3 : tie.Need-same-length-3
 same-length-3 c = search needs
 
 returns-3 : tie.Need-returns-3
-returns-3 c = rw (c .before .before .before .before .before .work3 .given .1) (c .before .before .kernel-into .ensures)
+returns-3 c =
+    let the-work3 = c .before .before .before .before .before .work3 in
+    rw (the-work3 .given .1) (c .before .before .kernel-into .ensures)
 
 returns-4 : tie.Need-returns-4
 returns-4 c = wrote-as (wrote-none _ _) (sym (plain-work _ (c .before .before .before .args .work) (c .match .keys4) .0)) (omega arith)

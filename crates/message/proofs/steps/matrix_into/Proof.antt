@@ -33,21 +33,27 @@ same-length c = search needs
 
 returns : tie.Need-returns
 unfolding writeShape writeField
-returns c = rw (c .before .before .before .before .before .matrix .given .1) (c .before .before .list-into .ensures)
+returns c =
+    let the-matrix = c .before .before .before .before .before .matrix in
+    rw (the-matrix .given .1) (c .before .before .list-into .ensures)
 
 same-length-2 : tie.Need-same-length-2
 same-length-2 c = search needs
 
 returns-2 : tie.Need-returns-2
 unfolding writeShape writeField
-returns-2 c = rw (c .before .before .before .before .before .matrix2 .given .1) (c .before .before .plain-into .ensures)
+returns-2 c =
+    let the-matrix2 = c .before .before .before .before .before .matrix2 in
+    rw (the-matrix2 .given .1) (c .before .before .plain-into .ensures)
 
 same-length-3 : tie.Need-same-length-3
 same-length-3 c = search needs
 
 returns-3 : tie.Need-returns-3
 unfolding writeShape writeField
-returns-3 c = rw (c .before .before .before .before .before .matrix3 .given .1) (c .before .before .plain-into2 .ensures)
+returns-3 c =
+    let the-matrix3 = c .before .before .before .before .before .matrix3 in
+    rw (the-matrix3 .given .1) (c .before .before .plain-into2 .ensures)
 
 same-length-4 : tie.Need-same-length-4
 same-length-4 c = search needs

@@ -22,9 +22,11 @@ same-length c = search needs
 
 returns : tie.Need-returns
 returns c =
-    let args = c .before .before .before .before .before .before .before .args in
+    let the-args = c .before .before .before .before .before .before .before .args in
+    let the-bits-of = c .before .before .before .before .before .bits-of in
+    let args = the-args in
     let block = c .before .before .write-block .ensures in
-    wrote-as (wrote 80 (block .0) (block .1)) (take-append-le (args .count) (args .kind ∷ c .before .before .before .before .before .bits-of .result ∷ c .before .before .before .before .bits-of2 .result ∷ []) _ (omega arith) ∙ (cc (c .before .before .before .before .before .bits-of .ensures, c .before .before .before .before .bits-of2 .ensures))) (omega arith)
+    wrote-as (wrote 80 (block .0) (block .1)) (take-append-le (args .count) (args .kind ∷ the-bits-of .result ∷ c .before .before .before .before .bits-of2 .result ∷ []) _ (omega arith) ∙ (cc (the-bits-of .ensures, c .before .before .before .before .bits-of2 .ensures))) (omega arith)
 
 pub plain-into-spec : {M : Type 1} → statement M
 plain-into-spec =

@@ -16,21 +16,32 @@ write-number-requires : tie.Need-write-number-requires
 write-number-requires c κs = search needs
 
 write-block-requires : tie.Need-write-block-requires
-write-block-requires c κs = let code = wrote-number (c .before .before .before .write-number .ensures) in (c .before .before .before .before .before .before .before .row-of .ensures .few, omega (arith, code .bounded))
+write-block-requires c κs =
+    let the-row-of = c .before .before .before .before .before .before .before .row-of in
+    let code = wrote-number (c .before .before .before .write-number .ensures) in
+    (the-row-of .ensures .few, omega (arith, code .bounded))
 
 lists-into-requires : tie.Need-lists-into-requires
-lists-into-requires c κs = let code = wrote-number (c .before .before .before .before .before .before .before .write-number .ensures) in omega (arith, code .bounded, c .before .before .before .write-block .ensures .1)
+lists-into-requires c κs =
+    let the-write-number = c .before .before .before .before .before .before .before .write-number in
+    let code = wrote-number (the-write-number .ensures) in
+    omega (arith, code .bounded, c .before .before .before .write-block .ensures .1)
 
 same-length : tie.Need-same-length
 same-length c = search needs
 
 returns : tie.Need-returns
 returns c =
-    let args = c .before .before .before .before .before .before .before .before .before .before .before .before .before .before .before .before .before .args in
-    let code = wrote-number (c .before .before .before .before .before .before .before .before .before .before .write-number .ensures) in
-    let row = c .before .before .before .before .before .before .write-block .ensures in
+    let the-args = c .before .before .before .before .before .before .before .before .before .before .before .before .before .before .before .before .before .args in
+    let the-row-of = c .before .before .before .before .before .before .before .before .before .before .before .before .before .before .row-of in
+    let the-code-of = c .before .before .before .before .before .before .before .before .before .before .before .code-of in
+    let the-write-number = c .before .before .before .before .before .before .before .before .before .before .write-number in
+    let the-write-block = c .before .before .before .before .before .before .write-block in
+    let args = the-args in
+    let code = wrote-number (the-write-number .ensures) in
+    let row = the-write-block .ensures in
     let are = step-words (args .pool .now) (args .step .work) (args .step .output) in
-    wrote-as (wrote-then code (wrote-then (wrote 80 (row .0) (row .1)) (c .before .before .lists-into .ensures))) (rw (c .before .before .before .before .before .before .before .before .before .before .before .code-of .ensures, c .before .before .before .before .before .before .before .before .before .before .before .before .before .before .row-of .ensures .held) are) (omega arith)
+    wrote-as (wrote-then code (wrote-then (wrote 80 (row .0) (row .1)) (c .before .before .lists-into .ensures))) (rw (the-code-of .ensures, the-row-of .ensures .held) are) (omega arith)
 
 pub step-into-spec : {M : Type 1} → statement M
 step-into-spec =

@@ -28,7 +28,8 @@ write-number-requires c κs = search needs
 loop-holds : tie.Need-loop-holds Inv-loop μ-loop
 unfolding stepsWords
 loop-holds c =
-    let start = c .before .before .before .before .before .before in
+    let the-before = c .before .before .before .before .before .before in
+    let start = the-before in
     (search needs, (sym (length-map (start .args .t2 .steps) _) ∙ start .good .1 .0 .1 .1 .0 .1 .0 .1, wrote-none _ _))
 
 mul-step-into : tie.Need-mul-step-into Inv-loop μ-loop
@@ -38,7 +39,10 @@ element-copy-out-step-into : tie.Need-element-copy-out-step-into Inv-loop μ-loo
 element-copy-out-step-into c = search needs
 
 step-into-requires : tie.Need-step-into-requires Inv-loop μ-loop
-step-into-requires c κs = let count = wrote-number (c .before .before .before .before .before .before .write-number .ensures) in omega (arith, count .bounded, c .before .before .before .loop .inv .1 .1 .bounded)
+step-into-requires c κs =
+    let the-write-number = c .before .before .before .before .before .before .write-number in
+    let count = wrote-number (the-write-number .ensures) in
+    omega (arith, count .bounded, c .before .before .before .loop .inv .1 .1 .bounded)
 
 add-i : tie.Need-add-i Inv-loop μ-loop
 add-i c = search needs
@@ -48,7 +52,8 @@ loop-less c = search needs
 
 loop-again : tie.Need-loop-again Inv-loop μ-loop
 loop-again c =
-    let loop = c .before .before .before .before .before .before .loop in
+    let the-loop = c .before .before .before .before .before .before .loop in
+    let loop = the-loop in
     let so-far = loop .inv .1 in
     (search needs, (so-far .0, wrote-as (wrote-then (so-far .1) (c .before .before .step-into .ensures)) (steps-more _ _ (loop .i) _ (omega arith)) (omega arith)))
 
@@ -57,8 +62,9 @@ same-length c = wrote-length (c .before .loop .inv .1 .1) ∙ wrote-length (wrot
 
 returns : tie.Need-returns Inv-loop μ-loop
 returns c =
+    let the-args = c .before .before .before .before .before .before .before .before .args in
     let loop = c .before .loop in
-    let args = c .before .before .before .before .before .before .before .before .args in
+    let args = the-args in
     let all : loop .i ≡ args .t2 .count = omega arith in
     rw (← message-bytes (args .t2) (args .pool .now) (loop .i) all (omega arith)) (wrote-then (wrote-number (c .before .before .before .before .write-number .ensures)) (loop .inv .1 .1) .put)
 

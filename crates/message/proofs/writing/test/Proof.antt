@@ -28,11 +28,15 @@ length-of-requires c κs = search needs
 
 returns-3 : tie.Need-returns-3
 unfolding writeAnswer
-returns-3 c = rw (le-ltb stepLimit _ (c .before .before .before .before .before .if1 .left), ← c .before .before .before .before .test-ranges .ensures, c .before .before .enum-told .given .1, ← c .before .length-of .ensures, lt-ltb _ _ (c .if2 .taken))
+returns-3 c =
+    let the-if1 = c .before .before .before .before .before .if1 in
+    rw (le-ltb stepLimit _ (the-if1 .left), ← c .before .before .before .before .test-ranges .ensures, c .before .before .enum-told .given .1, ← c .before .length-of .ensures, lt-ltb _ _ (c .if2 .taken))
 
 returns-4 : tie.Need-returns-4
 unfolding writeAnswer
-returns-4 c = rw (le-ltb stepLimit _ (c .before .before .before .before .before .if1 .left), ← c .before .before .before .before .test-ranges .ensures, c .before .before .enum-told .given .1, ← c .before .length-of .ensures, le-ltb _ _ (c .if2 .left))
+returns-4 c =
+    let the-if1 = c .before .before .before .before .before .if1 in
+    rw (le-ltb stepLimit _ (the-if1 .left), ← c .before .before .before .before .test-ranges .ensures, c .before .before .enum-told .given .1, ← c .before .length-of .ensures, le-ltb _ _ (c .if2 .left))
 
 pub test-spec : {M : Type 1} → statement M
 test-spec =

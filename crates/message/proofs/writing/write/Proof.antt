@@ -22,14 +22,17 @@ returns c =
     }
 
 message-into-requires : tie.Need-message-into-requires
-message-into-requires c κs = few-steps (c .before .before .before .before .before .before .args .recipe) (c .before .before .before .before .before .before .args .pool .now) _ (sym (c .before .before .before .test .ensures) ∙ c .before .enum-told .given .1)
+message-into-requires c κs =
+    let the-args = c .before .before .before .before .before .before .args in
+    few-steps (the-args .recipe) (the-args .pool .now) _ (sym (c .before .before .before .test .ensures) ∙ c .before .enum-told .given .1)
 
 same-length : tie.Need-same-length
 same-length c = search needs
 
 returns-2 : tie.Need-returns-2
 returns-2 c =
-    let done = sym (c .before .before .before .before .before .before .test .ensures) ∙ c .before .before .before .before .enum-told .given .1 in
+    let the-test = c .before .before .before .before .before .before .test in
+    let done = sym (the-test .ensures) ∙ c .before .before .before .before .enum-told .given .1 in
     let put = c .before .before .message-into .ensures in
     record { answered = sym done; long = rw done (omega (arith, put .ends)); bytes = rw done (put .stored) }
 

@@ -2,8 +2,6 @@
 use Rattle.sheet.proofs.Answers.{tests}
 use Rattle.nuprikhen.proofs.nup_recipes.kind_of.Statement.{statement}
 use Rattle.nuprikhen.proofs.nup_recipes.kind_of.Tie as tie
-use Rattle.nuprikhen.proofs.nup_recipes.kind_of.Reads as reads
-use Rattle.nuprikhen.proofs.nup_recipes.kind_of.Lts as lts
 
 returns : tie.Need-returns
 returns c = search tests

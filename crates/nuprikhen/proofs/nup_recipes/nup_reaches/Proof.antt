@@ -4,11 +4,6 @@ use Rattle.nuprikhen.proofs.Recipes.{message-told, reach-refused, reach
 use borrow.Author.Needs.{needs}
 use Rattle.nuprikhen.proofs.nup_recipes.nup_reaches.Statement.{statement}
 use Rattle.nuprikhen.proofs.nup_recipes.nup_reaches.Tie as tie
-use Rattle.nuprikhen.proofs.nup_recipes.nup_reaches.Reads as reads
-use Rattle.nuprikhen.proofs.nup_recipes.nup_reaches.Lts as lts
-use Rattle.message.proofs.read.Reads as read-reads
-use Rattle.nuprikhen.proofs.nup_recipes.reach_told.Reads as reach-told-reads
-use Rattle.nuprikhen.proofs.nup_recipes.reaches_by_kind.Reads as reaches-by-kind-reads
 
 slice-aggregate-read : tie.Need-slice-aggregate-read
 slice-aggregate-read c = search needs
@@ -35,7 +30,9 @@ reach-told-requires-2 : tie.Need-reach-told-requires-2
 reach-told-requires-2 c κs = search needs
 
 returns-2 : tie.Need-returns-2
-returns-2 c = reach-taken (c .before .before .before .before .before .before .before .read .result) (c .before .before .before .before .before .before .before .read .ensures) refl (c .before .before .before .before .enum-told .given .1) _ _ _ _ _ _ _ _ _ refl (c .reach-told2 .result) (c .before .reaches-by-kind .ensures) (c .reach-told2 .ensures)
+returns-2 c =
+    let the-read = c .before .before .before .before .before .before .before .read in
+    reach-taken (the-read .result) (the-read .ensures) refl (c .before .before .before .before .enum-told .given .1) _ _ _ _ _ _ _ _ _ refl (c .reach-told2 .result) (c .before .reaches-by-kind .ensures) (c .reach-told2 .ensures)
 
 pub nup-reaches-spec : {M : Type 1} → statement M
 nup-reaches-spec =

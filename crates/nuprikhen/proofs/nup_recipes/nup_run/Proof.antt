@@ -4,11 +4,6 @@ use Rattle.nuprikhen.proofs.Recipes.{message-told, run-refused, run-lef
 use borrow.Author.Needs.{needs}
 use Rattle.nuprikhen.proofs.nup_recipes.nup_run.Statement.{statement}
 use Rattle.nuprikhen.proofs.nup_recipes.nup_run.Tie as tie
-use Rattle.nuprikhen.proofs.nup_recipes.nup_run.Reads as reads
-use Rattle.nuprikhen.proofs.nup_recipes.nup_run.Lts as lts
-use Rattle.message.proofs.read.Reads as read-reads
-use Rattle.nuprikhen.proofs.nup_recipes.run_by_kind.Reads as run-by-kind-reads
-use Rattle.nuprikhen.proofs.nup_recipes.run_told.Reads as run-told-reads
 
 slice-aggregate-read : tie.Need-slice-aggregate-read
 slice-aggregate-read c = search needs
@@ -47,7 +42,11 @@ same-length-4 : tie.Need-same-length-4
 same-length-4 c = search needs
 
 returns-2 : tie.Need-returns-2
-returns-2 c = run-left (c .before .before .before .before .before .before .before .before .before .before .before .before .before .before .before .before .before .before .before .read .result) (c .before .before .before .before .before .before .before .before .before .before .before .before .before .before .before .before .before .before .before .read .ensures) refl (c .before .before .before .before .before .before .before .before .before .before .before .before .before .before .before .before .enum-told .given .1) _ _ _ _ _ _ _ _ (c .run-told2 .result) (c .before .before .before .before .before .before .before .before .before .run-by-kind .ensures) (c .run-told2 .ensures) (record { same = refl; steps = refl; were = refl; leaves = refl; scratch = refl; clears = refl })
+returns-2 c =
+    let the-read = c .before .before .before .before .before .before .before .before .before .before .before .before .before .before .before .before .before .before .before .read in
+    let the-enum-told = c .before .before .before .before .before .before .before .before .before .before .before .before .before .before .before .before .enum-told in
+    let the-run-by-kind = c .before .before .before .before .before .before .before .before .before .run-by-kind in
+    run-left (the-read .result) (the-read .ensures) refl (the-enum-told .given .1) _ _ _ _ _ _ _ _ (c .run-told2 .result) (the-run-by-kind .ensures) (c .run-told2 .ensures) (record { same = refl; steps = refl; were = refl; leaves = refl; scratch = refl; clears = refl })
 
 pub nup-run-spec : {M : Type 1} → statement M
 nup-run-spec =

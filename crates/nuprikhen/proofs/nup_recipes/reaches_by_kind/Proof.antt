@@ -3,10 +3,6 @@ use Rattle.nuprikhen.proofs.Recipes.{reaches-no-kind, reaches-kind}
 use borrow.Author.Needs.{needs}
 use Rattle.nuprikhen.proofs.nup_recipes.reaches_by_kind.Statement.{statement}
 use Rattle.nuprikhen.proofs.nup_recipes.reaches_by_kind.Tie as tie
-use Rattle.nuprikhen.proofs.nup_recipes.reaches_by_kind.Reads as reads
-use Rattle.nuprikhen.proofs.nup_recipes.reaches_by_kind.Lts as lts
-use Rattle.filter.proofs.reaches.Reads as reaches-reads
-use Rattle.nuprikhen.proofs.nup_recipes.kind_of.Reads as kind-of-reads
 
 returns : tie.Need-returns
 returns c = reaches-no-kind _ _ (c .if1 .taken)

@@ -4,10 +4,6 @@ use Rattle.nuprikhen.proofs.Recipes.{by-no-kind, by-kind}
 use borrow.Author.Needs.{needs}
 use Rattle.nuprikhen.proofs.nup_recipes.run_by_kind.Statement.{statement}
 use Rattle.nuprikhen.proofs.nup_recipes.run_by_kind.Tie as tie
-use Rattle.nuprikhen.proofs.nup_recipes.run_by_kind.Reads as reads
-use Rattle.nuprikhen.proofs.nup_recipes.run_by_kind.Lts as lts
-use Rattle.filter.proofs.run.Reads as run-reads
-use Rattle.nuprikhen.proofs.nup_recipes.kind_of.Reads as kind-of-reads
 
 returns : tie.Need-returns
 returns c = by-no-kind _ _ (c .if1 .taken) refl refl
@@ -31,7 +27,11 @@ same-length-4 : tie.Need-same-length-4
 same-length-4 c = search needs
 
 returns-2 : tie.Need-returns-2
-returns-2 c = by-kind _ _ (c .before .before .before .before .before .before .before .before .before .before .before .before .before .before .if1 .left) (c .before .before .before .before .before .before .before .before .run .ensures) (record { same = rw (c .before .before .before .before .before .before .before .before .before .before .before .before .before .kind-of .ensures); steps = refl; were = refl; leaves = refl; scratch = refl; clears = refl })
+returns-2 c =
+    let the-if1 = c .before .before .before .before .before .before .before .before .before .before .before .before .before .before .if1 in
+    let the-kind-of = c .before .before .before .before .before .before .before .before .before .before .before .before .before .kind-of in
+    let the-run = c .before .before .before .before .before .before .before .before .run in
+    by-kind _ _ (the-if1 .left) (the-run .ensures) (record { same = rw (the-kind-of .ensures); steps = refl; were = refl; leaves = refl; scratch = refl; clears = refl })
 
 pub run-by-kind-spec : {M : Type 1} → statement M
 run-by-kind-spec =

@@ -3,13 +3,6 @@ use Rattle.nuprikhen.proofs.Recipes.{told-message}
 use borrow.Author.Needs.{needs}
 use Rattle.nuprikhen.proofs.nup_recipes.run_told.Statement.{statement}
 use Rattle.nuprikhen.proofs.nup_recipes.run_told.Tie as tie
-use Rattle.nuprikhen.proofs.nup_recipes.run_told.Reads as reads
-use Rattle.nuprikhen.proofs.nup_recipes.run_told.Lts as lts
-use Rattle.message.proofs.answer_number.Reads as answer-number-reads
-use Rattle.message.proofs.answer_offset.Reads as answer-offset-reads
-use Rattle.message.proofs.answer_step.Reads as answer-step-reads
-use Rattle.sheet.proofs.answer_number.Reads as answer-number-reads′
-use Rattle.sheet.proofs.answer_step.Reads as answer-step-reads′
 
 answer-offset-requires : tie.Need-answer-offset-requires
 answer-offset-requires c κs = search needs
