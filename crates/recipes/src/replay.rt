@@ -4,6 +4,7 @@ use crate::runs;
 use crate::runs::Run;
 use crate::runs::Sheets;
 use filter::ReachAnswer;
+use filter::Recipe;
 use message::MessageAnswer;
 use message::Reading;
 use sheet::Answer;
@@ -114,11 +115,35 @@ fn answers_so(
     scratch: &mut [u8],
 ) -> bool {
     let read = reading.answer;
-    let at = run.sheets.answer;
     let MessageAnswer::Done = read else {
-        return is_refusal(list, at, read);
+        return is_refusal(list, run.sheets.answer, read);
     };
     let recipe = reading.recipe;
+    runs_so(
+        list,
+        run,
+        recipe,
+        pool,
+        source,
+        slot1,
+        slot2,
+        slot3,
+        scratch,
+    )
+}
+
+// Whether the answers of the run and of the yes or no are the stored ones.
+fn runs_so(
+    list: &[u8],
+    run: Run,
+    recipe: Recipe,
+    pool: &[f32],
+    source: &[u8],
+    slot1: &mut [u8],
+    slot2: &mut [u8],
+    slot3: &mut [u8],
+    scratch: &mut [u8],
+) -> bool {
     let kind = run.kind;
     let size = run.size;
     let told = filter::reaches(
@@ -143,7 +168,7 @@ fn answers_so(
         slot3,
         scratch,
     );
-    are_told(list, at, told, answer)
+    are_told(list, run.sheets.answer, told, answer)
 }
 
 // Whether the message's refusal is the stored one, with its offset and no reach.
