@@ -8,7 +8,7 @@
 //! nup_run and nup_reaches: the message's own refusals come first.
 
 use super::{Kind, Recipe, STEPS, Step, Work, answer, draw, draw_spoiled};
-use crate::message::{Call, Expected, draw_damaged, expected_of, message, sendable};
+use crate::message::{Call, Expected, draw_damaged, expected, message, sendable};
 use crate::primitives;
 use crate::rng::Rng;
 
@@ -24,8 +24,9 @@ const OF_STEPS: [u8; 5] = [7, 8, 3, 4, 5];
 pub fn list() -> Vec<u8> {
     let mut list = Vec::new();
     for recipe in recipes() {
-        let call = Call::new(message(&recipe), recipe.kind.number(), &recipe);
-        write(&mut list, &call, &expected_of(&call));
+        let kind = recipe.kind.number();
+        let call = Call::new(message(&recipe), kind, &recipe);
+        write(&mut list, &call, &expected(&recipe, kind));
     }
     for (call, expected) in malformed() {
         write(&mut list, &call, &expected);
