@@ -12,8 +12,7 @@ const HELP: &str = "\
 usage: oracle COMMAND
 
   write CRATES                    write the stored lists below the folder of the crates: vectors/data/floats.bin
-                                  and a NAME.bin for each primitive, and recipes.bin and messages.bin of
-                                  recipes/data
+                                  and a NAME.bin for each primitive, and recipes/data/messages.bin
   compare [NAME] [--cases N] [--seed S]
                                   compare the library with the Rust and the table of refusals, N cases
                                   each (20,000), drawn from the seed S, up to 16 hexadecimal digits
@@ -85,8 +84,7 @@ fn write(crates: &Path) -> std::io::Result<()> {
     let (vectors, recipes) = (crates.join("vectors/data"), crates.join("recipes/data"));
     fs::create_dir_all(&vectors)?;
     fs::create_dir_all(&recipes)?;
-    fs::write(recipes.join("recipes.bin"), recipe::list())?;
-    fs::write(recipes.join("messages.bin"), recipe::messages())?;
+    fs::write(recipes.join("messages.bin"), recipe::list())?;
     fs::write(vectors.join("floats.bin"), floats::bytes())?;
     for primitive in &ALL {
         let name = format!("{}.bin", primitive.name);

@@ -1,8 +1,9 @@
-// Runs a built-in recipe on sheets that stand on the stack, and writes the result.
+// Runs a recipe on sheets that stand on the stack, and writes the result.
 use crate::messages;
 use crate::output;
-use crate::recipes;
-use crate::recipes::Builtin;
+use filter::Kind;
+use filter::Recipe;
+use filter::STEP_LIMIT;
 use sheet::Answer;
 use sheet::Size;
 ghost use mathlib.Core.Path.{_≡_};
@@ -15,13 +16,15 @@ pub const PIXELS: usize = 307200;
 const SHEET: usize = 4 * PIXELS;
 
 // Filters a picture and writes the result.
-pub fn filter_picture(builtin: Builtin, size: Size, source: &[u8]) {
+pub fn filter_picture(recipe: Recipe, kind: Kind, pool: &[f32], size: Size, source: &[u8]) {
     let mut slot1 = [0u8; SHEET];
     let mut slot2 = [0u8; SHEET];
     let mut slot3 = [0u8; SHEET];
     let mut scratch = [0u8; SHEET];
     filter_on(
-        builtin,
+        recipe,
+        kind,
+        pool,
         size,
         source,
         &mut slot1,
@@ -33,7 +36,9 @@ pub fn filter_picture(builtin: Builtin, size: Size, source: &[u8]) {
 
 // The arrays are lent as arrays, whose length is their type's, and from here on as slices.
 fn filter_on(
-    builtin: Builtin,
+    recipe: Recipe,
+    kind: Kind,
+    pool: &[f32],
     size: Size,
     source: &[u8],
     slot1: &mut [u8; SHEET],
@@ -41,12 +46,24 @@ fn filter_on(
     slot3: &mut [u8; SHEET],
     scratch: &mut [u8; SHEET],
 ) {
-    lend(builtin, size, source, slot1, slot2, slot3, scratch);
+    lend(
+        recipe,
+        kind,
+        pool,
+        size,
+        source,
+        slot1,
+        slot2,
+        slot3,
+        scratch,
+    );
 }
 
 // Lends as much of each sheet as the picture takes.
 fn lend(
-    builtin: Builtin,
+    recipe: Recipe,
+    kind: Kind,
+    pool: &[f32],
     size: Size,
     source: &[u8],
     slot1: &mut [u8],
@@ -65,7 +82,9 @@ fn lend(
         return;
     }
     run(
-        builtin,
+        recipe,
+        kind,
+        pool,
         size,
         source,
         &mut slot1[..n],
@@ -75,9 +94,11 @@ fn lend(
     );
 }
 
-// Runs the recipe, and writes slot 3.
+// Runs the recipe, and writes the slot of its result.
 fn run(
-    builtin: Builtin,
+    recipe: Recipe,
+    kind: Kind,
+    pool: &[f32],
     size: Size,
     source: &[u8],
     slot1: &mut [u8],
@@ -85,11 +106,10 @@ fn run(
     slot3: &mut [u8],
     scratch: &mut [u8],
 ) {
-    let pool = recipes::pool();
     let answer = filter::run(
-        recipes::recipe(builtin),
-        recipes::kind(builtin),
-        &pool,
+        recipe,
+        kind,
+        pool,
         size,
         source,
         slot1,
@@ -101,7 +121,31 @@ fn run(
         messages::refused(answer);
         return;
     };
-    if !output::write(size.width, size.height, slot3) {
+    let slot = result_slot(recipe);
+    if slot == 1 {
+        write(size, slot1);
+    } else if slot == 2 {
+        write(size, slot2);
+    } else {
+        write(size, slot3);
+    }
+}
+
+// The slot that the last step writes, of a recipe that is taken.
+fn result_slot(recipe: Recipe) -> u32 {
+    let count = recipe.count;
+    if count == 0 {
+        return 0;
+    }
+    if STEP_LIMIT < count {
+        return 0;
+    }
+    let step = recipe.steps[count - 1];
+    step.output
+}
+
+fn write(size: Size, sheet: &[u8]) {
+    if !output::write(size.width, size.height, sheet) {
         messages::say(b"the picture was not written whole");
     }
 }

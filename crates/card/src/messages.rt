@@ -1,14 +1,33 @@
 // What is said: the help to standard output, and one line to standard error where something is wrong.
+use crate::sent;
 use libc::STDERR_FILENO;
 use libc::STDOUT_FILENO;
+use message::MessageAnswer;
 use pam::Fault;
 use sheet::Answer;
 
 pub fn help(pixels: usize) {
     io::write_all(STDOUT_FILENO, b"usage: card RECIPE < IN.pam > OUT.pam\n\n");
-    recipe(b"outline    a line round shapes on a clear ground: what dilation by 2 adds");
-    recipe(b"fade       colours halved towards white");
-    recipe(b"poster     colours cut down to four levels each");
+    recipe(b"outline      a line round shapes on a clear ground: what dilation by 2 adds");
+    recipe(b"fade         colours halved towards white");
+    recipe(b"poster       colours cut down to four levels each");
+    help_files();
+    help_pictures(pixels);
+}
+
+fn help_files() {
+    recipe(b"FILE.recipe  a message (docs/MESSAGES.md) in a file");
+    io::write_all(STDOUT_FILENO, b"\nA message is at most ");
+    number(STDOUT_FILENO, sent::MESSAGE);
+    io::write_all(STDOUT_FILENO, b" bytes, with at most ");
+    number(STDOUT_FILENO, sent::POOL);
+    io::write_all(
+        STDOUT_FILENO,
+        b" numbers in its lists; the output of its last step is written.\n",
+    );
+}
+
+fn help_pictures(pixels: usize) {
     io::write_all(
         STDOUT_FILENO,
         b"\nPictures are PAM: P7, DEPTH 4, MAXVAL 255, TUPLTYPE RGB_ALPHA, sides 1 to ",
@@ -66,12 +85,28 @@ pub fn too_long(most: usize) {
     end_number(b"too many bytes: the most is ", most);
 }
 
+// A run's refusal.
 pub fn refused(answer: Answer) {
-    io::write_all(STDERR_FILENO, b"card: ");
-    end_number(
-        b"the recipe is refused, number ",
-        sheet::answer_number(answer) as usize,
-    );
+    refusal(sheet::answer_number(answer), sheet::answer_step(answer));
+    end(b"");
+}
+
+// A message's refusal, with the offset of its wrong number if it has one.
+pub fn unread(answer: MessageAnswer) {
+    refusal(message::answer_number(answer), message::answer_step(answer));
+    if let MessageAnswer::Malformed(offset) = answer {
+        end_number(b", offset ", offset);
+    } else {
+        end(b"");
+    }
+}
+
+// The start of a refusal's line.
+fn refusal(of: u8, step: u8) {
+    io::write_all(STDERR_FILENO, b"card: the recipe is refused: number ");
+    number(STDERR_FILENO, of as usize);
+    io::write_all(STDERR_FILENO, b", step ");
+    number(STDERR_FILENO, step as usize);
 }
 
 pub fn wrong(fault: Fault, most: usize) {

@@ -21,6 +21,7 @@ pub enum Builtin {
 pub enum Asked {
     Help,
     Recipe(Builtin),
+    File,
     Unknown,
 }
 
@@ -40,7 +41,19 @@ pub fn named(word: &[u8]) -> Asked {
     if check::same(word, b"poster") {
         return Asked::Recipe(Builtin::Poster);
     }
+    if is_file(word) {
+        return Asked::File;
+    }
     Asked::Unknown
+}
+
+// Whether the word names a file with a message: it ends in .recipe.
+fn is_file(word: &[u8]) -> bool {
+    if word.len() < 7 {
+        return false;
+    }
+    let start = word.len() - 7;
+    check::same(&word[start..], b".recipe")
 }
 
 // How the recipe takes the picture's colours.

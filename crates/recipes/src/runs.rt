@@ -1,8 +1,7 @@
-// A stored recipe, in little-endian u32 words: width, height, kind (0 straight, 1 premultiplied), P, the P numbers of the pool,
-// count, S, and S steps; then five times a sheet's length with its bytes, for slots 0 to 3 and scratch; then the answer's number
-// and step, 1 where the result reaches slot 0 and else 0, and the five sheets' bytes after the run. Bytes are padded to a whole
-// number of words.
-use crate::steps::STEP_WORDS;
+// A stored recipe: width and height; its kind, one byte (0 straight, 1 premultiplied); the message's length and the message; five
+// times a sheet's length with its bytes, for slots 0 to 3 and scratch; the answer's number and step, 1 where the result reaches
+// slot 0 and else 0, and the answer's offset; and the five sheets' bytes after the run. Numbers but the kind are little-endian
+// u32 words, at any place; a sheet's bytes are padded to a whole number of words.
 use filter::Kind;
 use sheet::Size;
 use stored::sheets;
@@ -10,15 +9,12 @@ use stored::sheets::Stored;
 use stored::words;
 ghost use Prim.Native.Nat.{_<_};
 
-// A run: what stands in its words, and where its pool and steps stand.
+// A run: its size and kind, and where its message and its sheets stand.
 pub struct Run {
     pub size: Size,
     pub kind: Kind,
-    pub pool: usize,
-    pub pool_length: usize,
-    pub count: usize,
-    pub steps: usize,
-    pub step_count: usize,
+    pub message: usize,
+    pub message_length: usize,
     pub sheets: Sheets,
 }
 
@@ -37,18 +33,13 @@ pub fn read(list: &[u8], at: usize) -> Run
     requires { ⌜ at < 4294967296 ⌝ }
     ensures { λ r. ⌜ at < r .sheets .scratch .end ⌝ }
 {
-    let pool_length = words::count_at(list, at + 12);
-    let counts = at + 16 + 4 * pool_length;
-    let step_count = words::count_at(list, counts + 4);
+    let length = words::count_at(list, at + 9);
     Run {
         size: size_at(list, at),
-        kind: kind(words::nth_word(list, at, 2)),
-        pool: at + 16,
-        pool_length: pool_length,
-        count: words::count_at(list, counts),
-        steps: counts + 8,
-        step_count: step_count,
-        sheets: sheets_at(list, counts + 8 + 4 * STEP_WORDS * step_count),
+        kind: kind(words::nth_word(list, at, 2) % 256),
+        message: at + 13,
+        message_length: length,
+        sheets: sheets_at(list, at + 13 + length),
     }
 }
 
@@ -78,7 +69,7 @@ fn sheets_at(list: &[u8], at: usize) -> Sheets
     let c = sheets::span_at(list, b.end, true);
     let d = sheets::span_at(list, c.end, true);
     let e = sheets::span_at(list, d.end, true);
-    let source = sheets::left_at(a, e.end + 12);
+    let source = sheets::left_at(a, e.end + 16);
     let slot1 = sheets::left_at(b, source.end);
     let slot2 = sheets::left_at(c, slot1.end);
     let slot3 = sheets::left_at(d, slot2.end);
@@ -90,5 +81,25 @@ fn sheets_at(list: &[u8], at: usize) -> Sheets
         slot3: slot3,
         scratch: scratch,
         answer: e.end,
+    }
+}
+
+// The bytes of the run's message; fewer where the list ends before them.
+pub fn message(list: &[u8], run: Run) -> &[u8] {
+    let rest = after(list, run.message);
+    let length = run.message_length;
+    if rest.len() < length {
+        rest
+    } else {
+        &rest[..length]
+    }
+}
+
+// The bytes of the list from `at` on.
+fn after(list: &[u8], at: usize) -> &[u8] {
+    if at <= list.len() {
+        &list[at..]
+    } else {
+        &list[..0]
     }
 }

@@ -1,4 +1,4 @@
-// What a case's parameters and those of a recipe's step both hold: the numbers of choices, and values of several words.
+// What the parameters of cases hold: the numbers of choices, and values of several words.
 use crate::words;
 use convolve_matrix::EdgeMode;
 use displacement_map::ColorChannel;

@@ -9,7 +9,7 @@ mod read;
 mod write;
 
 pub use compare::{compare, run};
-pub use draw::sendable;
+pub use draw::{draw_damaged, sendable};
 pub use expected::{Expected, expected, expected_of};
 pub use read::{Refused, read};
 pub use write::{message, shortest};

@@ -12,7 +12,7 @@ use answer::held;
 pub use draw::{draw, draw_spoiled, spoil_float};
 pub use reach::{reach, reaches};
 pub use run::run;
-pub use stored::{list, messages};
+pub use stored::list;
 
 use crate::case::{Case, Param};
 use crate::primitives::{self, Primitive};

@@ -1,30 +1,22 @@
-//! The stored lists of recipes, which a Rattle program replays without Rust.
+//! The stored list of recipes, which a Rattle program replays without Rust.
 //!
-//! recipes.bin: little-endian u32 words: width, height, kind (0 straight, 1 premultiplied), P, the P numbers of the
-//! pool, count, S, and S steps of twenty words: code, output, first input, second input (0 where there is none) and
-//! sixteen parameters; then five times a length with that many bytes (slots 0 to 3 and
-//! scratch); then the answer's number and step, 1 where the result reaches slot 0 and else 0, and the five
-//! sheets' bytes after the run. Bytes are padded with zeros to a whole number of words. The end of the file
-//! ends the list.
-//!
-//! messages.bin: the same recipes as messages, as far as a message can say them (`sendable`). A case is its width and
-//! height, a word each; its kind, one byte; the message's length, a word, and the message's bytes, without padding;
-//! then, as in recipes.bin, the five lengths with their sheets, the answer's number and step, whether it reaches, and
-//! the five sheets afterwards. Words are little-endian u32 at any place; behind each sheet's bytes stand zeros up to the
-//! next multiple of four of its length. The answers are those of nup_run and nup_reaches: a message of over 16 steps is
-//! refused 6 before any other test.
+//! A case is its width and height, a word each; its kind (0 straight, 1 premultiplied), one byte; the message's length, a
+//! word, and the message's bytes, without padding; then five times a length with that many bytes (slots 0 to 3 and
+//! scratch); then the answer's number and step, 1 where the result reaches slot 0 and else 0, and the answer's offset;
+//! and the five sheets' bytes after the run. Words are little-endian u32 at any place; behind each sheet's bytes stand
+//! zeros up to the next multiple of four of its length. The end of the file ends the list. The answers are those of
+//! nup_run and nup_reaches: the message's own refusals come first.
 
-use super::{
-    Function, Kernel, Kind, Lighting, Recipe, STEPS, Step, Work, answer, draw, draw_spoiled,
-    reaches, run,
-};
-use crate::case::Answer;
-use crate::message::{expected, message, sendable};
+use super::{Kind, Recipe, STEPS, Step, Work, answer, draw, draw_spoiled};
+use crate::message::{Call, Expected, draw_damaged, expected, message, sendable};
 use crate::primitives;
 use crate::rng::Rng;
 
 const SEED: u64 = 0x7265_6369;
 const ACCEPTED: usize = 140;
+const MALFORMED: usize = 60;
+/// The most bytes of a malformed message.
+const LONGEST: usize = 1000;
 /// Every fault, and those of a step.
 const FAULTS: [u8; 8] = [1, 2, 3, 4, 5, 6, 7, 8];
 const OF_STEPS: [u8; 5] = [7, 8, 3, 4, 5];
@@ -32,22 +24,18 @@ const OF_STEPS: [u8; 5] = [7, 8, 3, 4, 5];
 pub fn list() -> Vec<u8> {
     let mut list = Vec::new();
     for recipe in recipes() {
-        write(&mut list, &recipe);
+        let kind = recipe.kind.number();
+        let call = Call::new(message(&recipe), kind, &recipe);
+        write(&mut list, &call, &expected(&recipe, kind));
     }
-    list
-}
-
-/// The same recipes as messages.
-pub fn messages() -> Vec<u8> {
-    let mut list = Vec::new();
-    for recipe in recipes() {
-        write_message(&mut list, &sendable(recipe));
+    for (call, expected) in malformed() {
+        write(&mut list, &call, &expected);
     }
     list
 }
 
 /// What is known, then accepted recipes, then recipes with each fault alone and with each other one, then those that
-/// are refused at a step of each primitive.
+/// are refused at a step of each primitive; each as far as a message can say it.
 fn recipes() -> Vec<Recipe> {
     let mut rng = Rng::new(SEED);
     let mut recipes = known();
@@ -73,7 +61,17 @@ fn recipes() -> Vec<Recipe> {
             recipes.extend(refused.take(2));
         }
     }
-    recipes
+    recipes.into_iter().map(sendable).collect()
+}
+
+/// Messages that are refused 10, each at an offset.
+fn malformed() -> impl Iterator<Item = (Call, Expected)> {
+    let mut rng = Rng::new(SEED);
+    let drawn = std::iter::repeat_with(move || draw_damaged(&mut rng));
+    let wrong = drawn.filter(|(call, expected)| {
+        expected.answer.number == 10 && call.kind < 2 && call.message.len() <= LONGEST
+    });
+    wrong.take(MALFORMED)
 }
 
 /// Whether a step of this primitive can be refused with this number of `OF_STEPS`.
@@ -161,121 +159,21 @@ fn in_one_step() -> [Work; 3] {
     ]
 }
 
-fn write(list: &mut Vec<u8>, recipe: &Recipe) {
-    let outcome = run(recipe);
-    let pool = recipe.pool.iter().map(|x| x.to_bits());
-    let kind = recipe.kind.number() as u32;
-    write_words(list, [recipe.width, recipe.height, kind, pool.len() as u32]);
-    write_words(list, pool);
-    write_words(list, [recipe.count, recipe.steps.len() as u32]);
-    for step in &recipe.steps {
-        write_words(list, words(step));
-    }
-    write_run(
-        list,
-        recipe,
-        outcome.answer,
-        reaches(recipe),
-        &outcome.sheets,
-    );
-}
-
-fn write_message(list: &mut Vec<u8>, recipe: &Recipe) {
-    let (message, kind) = (message(recipe), recipe.kind.number());
-    write_words(list, [recipe.width, recipe.height]);
-    list.push(kind);
-    write_words(list, [message.len() as u32]);
-    list.extend(message);
-    let expected = expected(recipe, kind);
-    let answer = Answer {
-        number: expected.answer.number,
-        step: expected.answer.step,
-    };
-    write_run(list, recipe, answer, expected.reaches, &expected.sheets);
-}
-
-/// The sheets, the answer, and the sheets after the run.
-fn write_run(
-    list: &mut Vec<u8>,
-    recipe: &Recipe,
-    answer: Answer,
-    reaches: bool,
-    sheets: &[Vec<u8>],
-) {
-    for sheet in &recipe.sheets {
+fn write(list: &mut Vec<u8>, call: &Call, expected: &Expected) {
+    write_words(list, [call.lent.width, call.lent.height]);
+    list.push(call.kind);
+    write_words(list, [call.message.len() as u32]);
+    list.extend(&call.message);
+    for sheet in &call.lent.sheets {
         write_words(list, [sheet.len() as u32]);
         write_bytes(list, sheet);
     }
-    let Answer { number, step } = answer;
-    write_words(list, [number as u32, step as u32, reaches as u32]);
-    for sheet in sheets {
+    let answer = expected.answer;
+    let (number, step) = (answer.number.into(), answer.step.into());
+    let offset = u32::try_from(answer.offset).expect("a short message");
+    write_words(list, [number, step, expected.reaches.into(), offset]);
+    for sheet in &expected.sheets {
         write_bytes(list, sheet);
-    }
-}
-
-/// The words of a step.
-const STEP_WORDS: usize = 20;
-
-fn words(step: &Step) -> [u32; STEP_WORDS] {
-    let bits = f32::to_bits;
-    let (code, parameters) = match step.work {
-        Work::Morphology(op, rx, ry) => (1, vec![op, bits(rx), bits(ry)]),
-        Work::Matrix(start, length) => (2, vec![0, start, length]),
-        Work::Saturate(v) => (2, vec![1, bits(v)]),
-        Work::HueRotate(cosine, sine) => (2, vec![2, bits(cosine), bits(sine)]),
-        Work::LuminanceToAlpha => (2, vec![3]),
-        Work::Arithmetic(k) => (3, k.map(bits).into()),
-        Work::Transfer(functions) => (4, functions.map(function_words).concat()),
-        Work::Convolve(kernel) => (5, kernel_words(kernel).into()),
-        Work::Displacement(channels, numbers) => (6, [&channels[..], &numbers.map(bits)].concat()),
-        Work::Turbulence(doubles, octaves, seed, kind) => {
-            let halves = |x: f64| [x.to_bits() as u32, (x.to_bits() >> 32) as u32];
-            let numbers = [octaves, seed as u32, kind];
-            (7, [&doubles.map(halves).concat()[..], &numbers].concat())
-        }
-        Work::Diffuse(lighting) => (8, lighting_words(lighting, None)),
-        Work::Specular(lighting, exponent) => (9, lighting_words(lighting, Some(exponent))),
-    };
-    let input = |i: usize| step.inputs.get(i).map_or(0, |slot| *slot);
-    let (first, second) = (input(0), input(1));
-    let mut words = [0; STEP_WORDS];
-    words[..4].copy_from_slice(&[code, step.output, first, second]);
-    words[4..4 + parameters.len()].copy_from_slice(&parameters);
-    words
-}
-
-fn kernel_words(kernel: Kernel) -> [u32; 10] {
-    [
-        kernel.columns,
-        kernel.rows,
-        kernel.target_x,
-        kernel.target_y,
-        kernel.start,
-        kernel.length,
-        kernel.divisor.to_bits(),
-        kernel.bias.to_bits(),
-        kernel.edge,
-        kernel.preserve_alpha as u32,
-    ]
-}
-
-/// The light, its three numbers, the scale, the constant, the exponent if there is one, and the colour.
-fn lighting_words(lighting: Lighting, exponent: Option<f32>) -> Vec<u32> {
-    let mut words = vec![lighting.light];
-    words.extend(lighting.place.map(f32::to_bits));
-    words.extend([lighting.surface_scale, lighting.constant].map(f32::to_bits));
-    words.extend(exponent.map(f32::to_bits));
-    words.extend(lighting.color.map(u32::from));
-    words
-}
-
-/// The kind of a transfer function, and its range or its slope and intercept.
-fn function_words(function: Function) -> [u32; 3] {
-    match function {
-        Function::Identity => [0, 0, 0],
-        Function::Table(start, length) => [1, start, length],
-        Function::Discrete(start, length) => [2, start, length],
-        Function::Linear(slope, intercept) => [3, slope.to_bits(), intercept.to_bits()],
     }
 }
 
@@ -291,6 +189,7 @@ fn write_bytes(list: &mut Vec<u8>, bytes: &[u8]) {
 
 #[cfg(test)]
 mod tests {
+    use super::super::{Kernel, Lighting};
     use super::*;
     use crate::message::read;
     use crate::recipe::SCRATCH;
@@ -307,78 +206,65 @@ mod tests {
             u32::from_le_bytes(self.0[self.1 - 4..self.1].try_into().unwrap())
         }
 
-        /// The sheets before and after, and the answer between: its number and step, and whether it reaches.
-        fn run(&mut self) -> (u32, u32, u32) {
+        /// What stands before the sheets.
+        fn head(&mut self) {
+            self.1 += 9;
+            let length = self.word() as usize;
+            let (start, end) = (self.1, self.1 + length);
+            let told = read(&self.0[start..end]);
+            assert!(told.map_or(true, |(_, pool)| pool.len() < 4096));
+            self.1 = end;
+        }
+
+        /// The sheets before and after, and the answer between: its number and step, whether it reaches, and its offset.
+        fn run(&mut self) -> [u32; 4] {
             let mut spans = Vec::new();
             for _ in 0..5 {
                 let length = self.word() as usize;
                 spans.push(self.1..self.1 + length);
                 self.1 += length.next_multiple_of(4);
             }
-            let (number, step, reaches) = (self.word(), self.word(), self.word());
+            let answer = [(); 4].map(|()| self.word());
             for (slot, span) in spans.into_iter().enumerate() {
                 let after = &self.0[self.1..self.1 + span.len()];
                 self.1 += span.len().next_multiple_of(4);
-                if number != 0 || slot == 0 {
+                if answer[0] != 0 || slot == 0 {
                     assert_eq!(self.0[span], *after);
                 } else if slot == SCRATCH {
                     assert!(after.iter().all(|b| *b == 0));
                 }
             }
-            (number, step, reaches)
+            answer
         }
     }
 
-    /// Reads a list back by its description alone, `head` what stands before the sheets: the answers.
-    fn answers(list: &[u8], head: fn(&mut Reader)) -> Vec<(u32, u32, u32)> {
+    /// Reads a list back by its description alone: the answers.
+    fn answers(list: &[u8]) -> Vec<[u32; 4]> {
         let mut reader = Reader(list, 0);
         let mut answers = Vec::new();
         while reader.1 < list.len() {
-            head(&mut reader);
+            reader.head();
             answers.push(reader.run());
         }
         assert_eq!(reader.1, list.len());
         answers
     }
 
-    fn recipe_head(reader: &mut Reader) {
-        reader.1 += 12;
-        reader.1 += 4 * reader.word() as usize;
-        let (count, steps) = (reader.word() as usize, reader.word() as usize);
-        assert!(steps <= STEPS && (count > STEPS || count <= steps));
-        reader.1 += 4 * STEP_WORDS * steps;
-    }
-
-    fn message_head(reader: &mut Reader) {
-        reader.1 += 9;
-        let length = reader.word() as usize;
-        let (start, end) = (reader.1, reader.1 + length);
-        let told = read(&reader.0[start..end]);
-        assert!(told.is_ok_and(|(_, pool)| pool.len() < 4096) || reader.0[start] > STEPS as u8);
-        reader.1 = end;
-    }
-
     #[test]
-    fn the_lists_read_back_and_hold_every_answer_at_many_steps() {
-        assert_eq!((list(), messages()), (list(), messages()));
-        for (list, head) in [
-            (list(), recipe_head as fn(&mut Reader)),
-            (messages(), message_head),
-        ] {
-            println!("{} bytes", list.len());
-            assert!(list.len() <= MOST_BYTES);
-            hold_every_answer(&answers(&list, head));
-        }
-    }
-
-    fn hold_every_answer(answers: &[(u32, u32, u32)]) {
+    fn the_list_reads_back_and_holds_every_answer_at_many_steps() {
+        let bytes = list();
+        assert_eq!(bytes, list());
+        println!("{} bytes", bytes.len());
+        assert!(bytes.len() <= MOST_BYTES);
+        let answers = answers(&bytes);
         println!("{} recipes", answers.len());
-        assert!(answers.len() > 350);
-        for number in 0..9 {
-            let these = answers.iter().filter(|answer| answer.0 == number);
+        assert!(answers.len() > 400);
+        for number in (0..9).chain([10]) {
+            let these = answers.iter().filter(|answer| answer[0] == number);
             let count = these.clone().count();
-            let steps: BTreeSet<u32> = these.map(|answer| answer.1).collect();
-            println!("{number}: {count} recipes, steps {steps:?}");
+            let steps: BTreeSet<u32> = these.clone().map(|answer| answer[1]).collect();
+            let offsets: BTreeSet<u32> = these.map(|answer| answer[3]).collect();
+            println!("{number}: {count} recipes, steps {steps:?}, offsets {offsets:?}");
             assert!(count >= 12, "{number}");
             let of_steps = [3, 4, 5, 7, 8].contains(&number);
             assert!(if of_steps {
@@ -386,44 +272,49 @@ mod tests {
             } else {
                 steps.len() == 1
             });
+            assert!(if number == 10 {
+                offsets.len() >= 20
+            } else {
+                offsets.len() == 1
+            });
         }
         // A refused recipe reaches nothing, and one that draws turbulence need not reach the source.
-        assert!(answers.iter().all(|answer| answer.0 == 0 || answer.2 == 0));
-        let accepted = answers.iter().filter(|answer| answer.0 == 0);
-        let reach = accepted.clone().filter(|answer| answer.2 == 1).count();
+        assert!(
+            answers
+                .iter()
+                .all(|answer| answer[0] == 0 || answer[2] == 0)
+        );
+        let accepted = answers.iter().filter(|answer| answer[0] == 0);
+        let reach = accepted.clone().filter(|answer| answer[2] == 1).count();
         println!("{reach} reach the source");
         assert!(reach >= 100 && accepted.count() - reach >= 15);
     }
 
-    /// Each primitive is run often, and stands where a recipe is refused for each reason that it can give, as a
-    /// message too.
+    /// Each primitive is run often, and stands where a recipe is refused for each reason that it can give.
     #[test]
     fn every_work_is_taken_and_refused() {
-        let sent: Vec<Recipe> = recipes().into_iter().map(sendable).collect();
-        for recipes in [recipes(), sent] {
-            let mut seen = BTreeMap::new();
-            for recipe in recipes {
-                let answer = answer(&recipe);
-                let steps: &[Step] = match answer.number {
-                    0 => recipe.taken(),
-                    1 | 2 | 6 => &[],
-                    _ => &recipe.steps[answer.step as usize..][..1],
-                };
-                for step in steps {
-                    let name = step.work.primitive().name;
-                    seen.entry(name).or_insert([0; 9])[answer.number as usize] += 1;
-                }
+        let mut seen = BTreeMap::new();
+        for recipe in recipes() {
+            let answer = answer(&recipe);
+            let steps: &[Step] = match answer.number {
+                0 => recipe.taken(),
+                1 | 2 | 6 => &[],
+                _ => &recipe.steps[answer.step as usize..][..1],
+            };
+            for step in steps {
+                let name = step.work.primitive().name;
+                seen.entry(name).or_insert([0; 9])[answer.number as usize] += 1;
             }
-            for (name, counts) in &seen {
-                println!("{name}: {counts:?}");
-                assert!(counts[0] >= 20, "{name}");
-                for number in OF_STEPS {
-                    let often = counts[number as usize] > 1;
-                    assert_eq!(often, can_give(name, number), "{name} {number}");
-                }
-            }
-            assert_eq!(seen.len(), primitives::ALL.len());
         }
+        for (name, counts) in &seen {
+            println!("{name}: {counts:?}");
+            assert!(counts[0] >= 20, "{name}");
+            for number in OF_STEPS {
+                let often = counts[number as usize] > 1;
+                assert_eq!(often, can_give(name, number), "{name} {number}");
+            }
+        }
+        assert_eq!(seen.len(), primitives::ALL.len());
     }
 
     /// The first test that fails answers: 1, 2, 6, then step by step 7, 8, 3, 4, 5.
