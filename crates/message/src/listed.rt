@@ -147,6 +147,9 @@ pub fn color_matrix_at(message: &[u8], at: usize, pool: &mut [f32], used: usize)
     }
 }
 
+// The bounds of a divisor, a bias, an edge mode and a yes or no.
+const KERNEL_TAIL: [u32; BLOCK] = [ANY, ANY, 2, 1, 0, 0, 0, 0, 0, 0, 0, 0, 0, 0, 0, 0];
+
 pub fn convolve_matrix_at(message: &[u8], at: usize, pool: &mut [f32], used: usize) -> StepRead
     requires { ⌜ used ≤ at ⌝ }
     ensures { λ r. ⌜ FormTaken 5 (was message) at used (was pool) (became pool) r ⌝ }
@@ -163,12 +166,7 @@ pub fn convolve_matrix_at(message: &[u8], at: usize, pool: &mut [f32], used: usi
     let Place::At(after) = kernel_place else {
         return no_step(used, kernel_place);
     };
-    let tail = block_at(
-        message,
-        after,
-        [ANY, ANY, 2, 1, 0, 0, 0, 0, 0, 0, 0, 0, 0, 0, 0, 0],
-        4,
-    );
+    let tail = block_at(message, after, KERNEL_TAIL, 4);
     let t = tail.words;
     let end = tail.place;
     let matrix = ConvolveMatrix {

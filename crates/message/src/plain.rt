@@ -1,6 +1,7 @@
 // Steps without lists: a row of numbers, read at once.
 use crate::StepRead;
 use crate::block::ANY;
+use crate::block::BLOCK;
 use crate::block::block_at;
 use crate::codes::byte_of;
 use crate::codes::channel_by;
@@ -17,16 +18,75 @@ ghost use Prim.Native.Nat.{_≤_};
 ghost use Rattle.sheet.specs.Contract.{was};
 ghost use Rattle.message.specs.inner.Reading.{PlainTaken};
 
+// The bounds of each step's numbers.
+const MORPHOLOGY: [u32; BLOCK] = [ANY, ANY, 1, ANY, ANY, 0, 0, 0, 0, 0, 0, 0, 0, 0, 0, 0];
+
+const ARITHMETIC: [u32; BLOCK] = [ANY, ANY, ANY, ANY, ANY, ANY, ANY, 0, 0, 0, 0, 0, 0, 0, 0, 0];
+
+const DISPLACEMENT_MAP: [u32; BLOCK] = [ANY, ANY, ANY, 3, 3, ANY, ANY, ANY, 0, 0, 0, 0, 0, 0, 0, 0];
+
+const TURBULENCE: [u32; BLOCK] = [
+    ANY,
+    ANY,
+    ANY,
+    ANY,
+    ANY,
+    ANY,
+    ANY,
+    ANY,
+    ANY,
+    ANY,
+    ANY,
+    ANY,
+    ANY,
+    ANY,
+    ANY,
+    1,
+];
+
+const DIFFUSE_LIGHTING: [u32; BLOCK] = [
+    ANY,
+    ANY,
+    ANY,
+    ANY,
+    255,
+    255,
+    255,
+    1,
+    ANY,
+    ANY,
+    ANY,
+    0,
+    0,
+    0,
+    0,
+    0,
+];
+
+const SPECULAR_LIGHTING: [u32; BLOCK] = [
+    ANY,
+    ANY,
+    ANY,
+    ANY,
+    ANY,
+    255,
+    255,
+    255,
+    1,
+    ANY,
+    ANY,
+    ANY,
+    0,
+    0,
+    0,
+    0,
+];
+
 pub fn morphology_at(message: &[u8], at: usize, used: usize) -> StepRead
     requires { ⌜ used ≤ at ⌝ }
     ensures { λ r. ⌜ PlainTaken 1 (was message) at used r ⌝ }
 {
-    let block = block_at(
-        message,
-        at,
-        [ANY, ANY, 1, ANY, ANY, 0, 0, 0, 0, 0, 0, 0, 0, 0, 0, 0],
-        5,
-    );
+    let block = block_at(message, at, MORPHOLOGY, 5);
     let w = block.words;
     let work = Work::Morphology(w[0], operator_by(w[2]), float_of(w[3]), float_of(w[4]));
     let place = block.place;
@@ -41,12 +101,7 @@ pub fn arithmetic_at(message: &[u8], at: usize, used: usize) -> StepRead
     requires { ⌜ used ≤ at ⌝ }
     ensures { λ r. ⌜ PlainTaken 4 (was message) at used r ⌝ }
 {
-    let block = block_at(
-        message,
-        at,
-        [ANY, ANY, ANY, ANY, ANY, ANY, ANY, 0, 0, 0, 0, 0, 0, 0, 0, 0],
-        7,
-    );
+    let block = block_at(message, at, ARITHMETIC, 7);
     let w = block.words;
     let work = Work::Arithmetic(
         w[0],
@@ -68,12 +123,7 @@ pub fn displacement_map_at(message: &[u8], at: usize, used: usize) -> StepRead
     requires { ⌜ used ≤ at ⌝ }
     ensures { λ r. ⌜ PlainTaken 6 (was message) at used r ⌝ }
 {
-    let block = block_at(
-        message,
-        at,
-        [ANY, ANY, ANY, 3, 3, ANY, ANY, ANY, 0, 0, 0, 0, 0, 0, 0, 0],
-        8,
-    );
+    let block = block_at(message, at, DISPLACEMENT_MAP, 8);
     let w = block.words;
     let work = Work::DisplacementMap(
         w[0],
@@ -96,29 +146,7 @@ pub fn turbulence_at(message: &[u8], at: usize, used: usize) -> StepRead
     requires { ⌜ used ≤ at ⌝ }
     ensures { λ r. ⌜ PlainTaken 7 (was message) at used r ⌝ }
 {
-    let block = block_at(
-        message,
-        at,
-        [
-            ANY,
-            ANY,
-            ANY,
-            ANY,
-            ANY,
-            ANY,
-            ANY,
-            ANY,
-            ANY,
-            ANY,
-            ANY,
-            ANY,
-            ANY,
-            ANY,
-            ANY,
-            1,
-        ],
-        16,
-    );
+    let block = block_at(message, at, TURBULENCE, 16);
     let w = block.words;
     let t = Turbulence {
         offset_x: double_of(w[1], w[2]),
@@ -146,29 +174,7 @@ pub fn diffuse_lighting_at(message: &[u8], at: usize, used: usize) -> StepRead
     requires { ⌜ used ≤ at ⌝ }
     ensures { λ r. ⌜ PlainTaken 8 (was message) at used r ⌝ }
 {
-    let block = block_at(
-        message,
-        at,
-        [
-            ANY,
-            ANY,
-            ANY,
-            ANY,
-            255,
-            255,
-            255,
-            1,
-            ANY,
-            ANY,
-            ANY,
-            0,
-            0,
-            0,
-            0,
-            0,
-        ],
-        11,
-    );
+    let block = block_at(message, at, DIFFUSE_LIGHTING, 11);
     let w = block.words;
     let color = Color {
         red: byte_of(w[4]),
@@ -189,29 +195,7 @@ pub fn specular_lighting_at(message: &[u8], at: usize, used: usize) -> StepRead
     requires { ⌜ used ≤ at ⌝ }
     ensures { λ r. ⌜ PlainTaken 9 (was message) at used r ⌝ }
 {
-    let block = block_at(
-        message,
-        at,
-        [
-            ANY,
-            ANY,
-            ANY,
-            ANY,
-            ANY,
-            255,
-            255,
-            255,
-            1,
-            ANY,
-            ANY,
-            ANY,
-            0,
-            0,
-            0,
-            0,
-        ],
-        12,
-    );
+    let block = block_at(message, at, SPECULAR_LIGHTING, 12);
     let w = block.words;
     let color = Color {
         red: byte_of(w[5]),
