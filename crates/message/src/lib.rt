@@ -95,7 +95,7 @@ pub fn blank() -> Step
 
 // No step, because of what stands at a place.
 pub fn no_step(used: usize, place: Place) -> StepRead
-    ensures { λ r. ⌜ (r .place ≡ place) × (r .used ≡ used) ⌝ }
+    ensures { λ r. ⌜ (r .place ≡ place) × ((r .used ≡ used) × (r .step ≡ Answers.blank)) ⌝ }
 {
     StepRead {
         step: blank(),

@@ -49,7 +49,7 @@ returns-2 c =
     let the-block-at = c .before .before .before .before .before .before .before .before .before .before .before .before .block-at in
     let the-place = c .before .before .before .before .before .before .before .before .before .place in
     let the-numbers-at = c .before .before .before .before .before .before .numbers-at in
-    tail-taken 5 refl _ _ _ (the-pre) (the-block-at .result) (the-block-at .ensures) (the-place .given .1) (kernel-wrong _ _ _ (the-numbers-at .result) (the-numbers-at .ensures) {fine = λ v l. ⊥} (is-wrong (the-numbers-at .result .place) (c .before .before .match2 .keys2))) _ (c .no-step2 .ensures .0) (c .no-step2 .ensures .1) (λ vs l g. absurd g)
+    tail-taken 5 refl _ _ _ (the-pre) (the-block-at .result) (the-block-at .ensures) (the-place .given .1) (kernel-wrong _ _ _ (the-numbers-at .result) (the-numbers-at .ensures) {fine = λ v l. ⊥} (is-wrong (the-numbers-at .result .place) (c .before .before .match2 .keys2))) _ (c .no-step2 .ensures .0) (c .no-step2 .ensures .1 .0) (λ vs l g. absurd g)
 
 block-at-requires-2 : tie.Need-block-at-requires-2
 block-at-requires-2 c κs = search needs
