@@ -8,6 +8,7 @@ ghost use lib.ListN.{length};
 ghost use Rattle.sheet.specs.Answer.{number, stepIndex, andThen};
 ghost use Rattle.sheet.specs.Size.{isSide, sheetsAnswer};
 ghost use Rattle.sheet.specs.Tabulate.{zeros, copied};
+ghost use Rattle.sheet.specs.inner.Strips.{stripFrom};
 
 // Why a call is turned away: document 01's numbers 1 to 8, in order.
 pub enum Refusal {
@@ -35,6 +36,9 @@ pub struct Size {
 
 // The longest side of a sheet.
 pub const SIDE_LIMIT: usize = 2048;
+
+// The most columns of a strip: what is worked out for each column has work space for so many, however wide the sheet is.
+pub const STRIP: usize = 512;
 
 fn refusal_number(refusal: Refusal) -> u8
     ensures { λ r. ⌜ r ≡ Rattle.sheet.specs.Answer.refusalNumber refusal ⌝ }
@@ -139,6 +143,16 @@ fn shorter(a: usize, b: usize) -> usize
     ensures { λ r. ⌜ r ≡ min a b ⌝ }
 {
     if a < b { a } else { b }
+}
+
+// How many columns the strip from column x on has.
+pub fn strip_from(width: usize, x: usize) -> usize
+    ensures { λ r. ⌜ r ≡ stripFrom width x ⌝ }
+{
+    if width < x {
+        return 0;
+    }
+    shorter(width - x, STRIP)
 }
 
 // dst takes src's bytes, as many as both have; the rest of dst stays.
