@@ -64,23 +64,23 @@ module _ (target n at : ℕ) where
   own-place h l Duplicate = sym (nearest-mid h (omega arith))
   own-place h l Wrap = sym (remainder-high h) ∙ mod-eq-of-lt l
 
--- ---- the span of a column
-pub span-none : (target w ox : ℕ) → Span None target w ox (lessWithin target ox w) (lessWithin (w + target) ox w)
-span-none target w ox = record {
+-- ---- the span of n places from `at` on
+pub span-none : (target w n at : ℕ) → Span None target w n at (lessWithin target at n) (lessWithin (w + target) at n)
+span-none target w n at = record {
   ordered = omega arith;
   within = omega arith;
-  read = λ x l h. sym (read-high target w (x + ox) (omega arith)) ∙ lt-ltb (x + ox - target) w (omega arith);
-  left = λ x l. sym (read-low target w (x + ox) (omega arith));
-  right = λ x l h. sym (read-high target w (x + ox) (omega arith)) ∙ le-ltb (x + ox - target) w (omega arith);
+  read = λ i l h. sym (read-high target w (i + at) (omega arith)) ∙ lt-ltb (i + at - target) w (omega arith);
+  left = λ i l. sym (read-low target w (i + at) (omega arith));
+  right = λ i l h. sym (read-high target w (i + at) (omega arith)) ∙ le-ltb (i + at - target) w (omega arith);
 }
 
-pub span-all : (mode : EdgeMode) (target w ox : ℕ) → ((at : ℕ) → isRead mode target w at ≡ true) → Span mode target w ox 0 w
-span-all mode target w ox all = record {
+pub span-all : (mode : EdgeMode) (target w n at : ℕ) → ((k : ℕ) → isRead mode target w k ≡ true) → Span mode target w n at 0 n
+span-all mode target w n at all = record {
   ordered = zero-le;
   within = omega arith;
-  read = λ x l h. all (x + ox);
-  left = λ x l. absurd (omega arith);
-  right = λ x l h. absurd (omega arith);
+  read = λ i l h. all (i + at);
+  left = λ i l. absurd (omega arith);
+  right = λ i l h. absurd (omega arith);
 }
 
 pub read-duplicate : (target n at : ℕ) → isRead Duplicate target n at ≡ true

@@ -5,7 +5,7 @@ mod InOrder
 pub mod WithinAlpha
 pub mod Unchanged
 pub mod Needed
-mod Stretches
+mod Widening
 mod Tested
 mod Summing
 mod Finishing

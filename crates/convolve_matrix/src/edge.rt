@@ -1,7 +1,9 @@
 // Where a kernel's number falls on a side of the sheet. A place is meant by one that lies `target` past it.
 ghost use mathlib.Core.Path.{_≡_};
-ghost use Prim.Native.Nat.{_<_};
+ghost use Prim.Native.Nat.{_≤_, _<_};
 ghost use lib.IntN.{subℕ};
+ghost use Rattle.sheet.specs.Size.{sideLimit};
+ghost use Rattle.convolve_matrix.specs.ConvolveMatrix.{kernelLimit};
 ghost use Rattle.convolve_matrix.specs.Edges as Edges;
 ghost use Rattle.convolve_matrix.specs.inner.Rows as Rows;
 
@@ -69,7 +71,7 @@ pub fn place(mode: EdgeMode, target: usize, n: usize, at: usize) -> usize
 }
 
 // a - b, or 0, and n at the most.
-fn less_within(a: usize, b: usize, n: usize) -> usize
+pub fn less_within(a: usize, b: usize, n: usize) -> usize
     ensures { λ r. ⌜ r ≡ Rows.lessWithin a b n ⌝ }
 {
     if a < b {
@@ -81,18 +83,18 @@ fn less_within(a: usize, b: usize, n: usize) -> usize
     }
 }
 
-// Of w places, those for which column ox of the window is read.
-pub fn span_of(mode: EdgeMode, target: usize, w: usize, ox: usize) -> Span
-    requires { ⌜ (target < 16) × (w < 4096) ⌝ }
-    ensures { λ r. ⌜ Rows.Span mode target w ox (r .from) (r .to) ⌝ }
+// Of the n places from `at` on, counted from it, those that are read on a side of w places.
+pub fn span_of(mode: EdgeMode, target: usize, w: usize, n: usize, at: usize) -> Span
+    requires { ⌜ (target < kernelLimit) × (w ≤ sideLimit) ⌝ }
+    ensures { λ r. ⌜ Rows.Span mode target w n at (r .from) (r .to) ⌝ }
 {
     match mode {
         EdgeMode::None => {
-            let from = less_within(target, ox, w);
-            let to = less_within(w + target, ox, w);
+            let from = less_within(target, at, n);
+            let to = less_within(w + target, at, n);
             Span { from, to }
         }
-        EdgeMode::Duplicate => Span { from: 0, to: w },
-        EdgeMode::Wrap => Span { from: 0, to: w },
+        EdgeMode::Duplicate => Span { from: 0, to: n },
+        EdgeMode::Wrap => Span { from: 0, to: n },
     }
 }

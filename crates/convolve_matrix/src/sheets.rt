@@ -1,35 +1,39 @@
-// The sheet, row by row.
+// The sheet, strip by strip, and each strip row by row: the n columns from column x on.
 use crate::ConvolveMatrix;
+use crate::KERNEL_LIMIT;
 use crate::pixel;
 use crate::rows;
+use sheet::STRIP;
 ghost use mathlib.Core.Path.{_≡_};
-ghost use Prim.Native.Nat.{_+_, _*_, _≤_, _<_};
+ghost use Prim.Native.Nat.{_+_, _-_, _*_, _≤_, _<_};
 ghost use lib.ListN.{length};
+ghost use Rattle.sheet.specs.Contract.{was, became};
 ghost use Rattle.sheet.specs.Size.{Sized};
+ghost use Rattle.sheet.specs.inner.Strips.{stripLimit, Worked, Changed};
 ghost use Rattle.sheet.specs.Tabulate.{zeros};
-ghost use Rattle.convolve_matrix.specs.ConvolveMatrix.{convolvedAt, convolvedBy};
-ghost use Rattle.convolve_matrix.specs.inner.Rows.{Changed, Kernel, finishedAt};
+ghost use Rattle.convolve_matrix.specs.ConvolveMatrix.{kernelLimit, convolvedAt, convolvedBy};
+ghost use Rattle.convolve_matrix.specs.inner.Rows.{Kernel, finishedAt};
 
-// Four numbers for each of the most places: of a row, and of a row with the most columns beyond its edges.
-const SUMS: usize = 8192;
+// Four numbers for each of the most places: of a strip, and of a strip with the most columns beyond its edges.
+const SUMS: usize = 4 * STRIP;
 
-const WIDENED: usize = 8248;
+const WIDENED: usize = 4 * (STRIP + KERNEL_LIMIT as usize - 1);
 
-// The w pixels of `dest` whose bytes begin at `first` become those of the sums; their alphas stood in `src`.
+// The n pixels of `dest` whose bytes begin at `first` become those of the sums; their alphas stood in `src`.
 fn finish_row(
     matrix: ConvolveMatrix,
     sums: &[f32],
     src: &[u8],
     first: usize,
-    w: usize,
+    n: usize,
     dest: &mut [u8],
 )
-    requires { ⌜ (4 * w ≤ length (now sums)) × (first + 4 * w ≤ length (now src)) × (first + 4 * w ≤ length (now dest)) ⌝ }
-    ensures { λ _. ⌜ Changed 0 (finishedAt matrix (now (sums .entry)) (now (src .entry)) first) first (4 * w) (now (dest .entry)) (now (dest .exit)) ⌝ }
+    requires { ⌜ (4 * n ≤ length (now sums)) × (first + 4 * n ≤ length (now src)) × (first + 4 * n ≤ length (now dest)) ⌝ }
+    ensures { λ _. ⌜ Changed 0 (finishedAt matrix (was sums) (was src) first) first (4 * n) (was dest) (became dest) ⌝ }
 {
-    let n = 4 * w;
+    let end = 4 * n;
     let mut k = 0;
-    while k < n {
+    while k < end {
         let p = pixel::finished(
             matrix,
             sums[k],
@@ -43,13 +47,15 @@ fn finish_row(
     }
 }
 
-// Row y of `dest` becomes that of the result. `row` and `sums` are work space.
+// Row y of the strip becomes that of the result. `row` and `sums` are work space.
 fn convolve_row(
     matrix: ConvolveMatrix,
     kernel: &[f32],
     w: usize,
     h: usize,
     src: &[u8],
+    x: usize,
+    n: usize,
     y: usize,
     row: &mut [f32],
     sums: &mut [f32],
@@ -57,33 +63,38 @@ fn convolve_row(
 )
     requires { ⌜ Kernel matrix (now kernel) × (y < h) ⌝ }
     requires { ⌜ Sized w h × (length (now src) ≡ 4 * w * h) × (length (now dest) ≡ 4 * w * h) ⌝ }
-    requires { ⌜ (length (now row) ≡ 8248) × (length (now sums) ≡ 8192) ⌝ }
-    ensures { λ _. ⌜ Changed 0 (λ j. convolvedAt matrix (now (kernel .entry)) w h (now (src .entry)) (4 * (y * w) + j)) (4 * (y * w)) (4 * w) (now (dest .entry)) (now (dest .exit)) ⌝ }
+    requires { ⌜ (x + n ≤ w) × (n ≤ stripLimit) ⌝ }
+    requires { ⌜ (length (now row) ≡ 4 * (stripLimit + (kernelLimit - 1))) × (length (now sums) ≡ 4 * stripLimit) ⌝ }
+    ensures { λ _. ⌜ Changed 0 (λ j. convolvedAt matrix (was kernel) w h (was src) (4 * (y * w + x) + j)) (4 * (y * w + x)) (4 * n) (was dest) (became dest) ⌝ }
 {
-    rows::clear(sums, 4 * w);
-    rows::add_rows(matrix, kernel, w, h, src, y, row, sums);
-    finish_row(matrix, sums, src, 4 * (y * w), w, dest);
+    rows::clear(sums, 4 * n);
+    rows::add_rows(matrix, kernel, w, h, src, x, n, y, row, sums);
+    finish_row(matrix, sums, src, 4 * (y * w + x), n, dest);
 }
 
-// Every row of `dest` becomes that of the result. `row` and `sums` are work space.
+// Every row of the strip becomes that of the result. `row` and `sums` are work space.
 fn convolve_rows(
     matrix: ConvolveMatrix,
     kernel: &[f32],
     w: usize,
     h: usize,
     src: &[u8],
+    x: usize,
+    n: usize,
     row: &mut [f32],
     sums: &mut [f32],
     dest: &mut [u8],
 )
     requires { ⌜ Kernel matrix (now kernel) ⌝ }
     requires { ⌜ Sized w h × (length (now src) ≡ 4 * w * h) × (length (now dest) ≡ 4 * w * h) ⌝ }
-    requires { ⌜ (length (now row) ≡ 8248) × (length (now sums) ≡ 8192) ⌝ }
-    ensures { λ _. ⌜ now (dest .exit) ≡ convolvedBy matrix (now (kernel .entry)) w h (now (src .entry)) ⌝ }
+    requires { ⌜ (x + n ≤ w) × (n ≤ stripLimit) ⌝ }
+    requires { ⌜ (length (now row) ≡ 4 * (stripLimit + (kernelLimit - 1))) × (length (now sums) ≡ 4 * stripLimit) ⌝ }
+    requires { ⌜ Worked (convolvedAt matrix (now kernel) w h (now src)) w x n 0 (now dest) ⌝ }
+    ensures { λ _. ⌜ Worked (convolvedAt matrix (was kernel) w h (was src)) w x n h (became dest) ⌝ }
 {
     let mut y = 0;
     while y < h {
-        convolve_row(matrix, kernel, w, h, src, y, row, sums, dest);
+        convolve_row(matrix, kernel, w, h, src, x, n, y, row, sums, dest);
         y += 1;
     }
 }
@@ -99,11 +110,16 @@ fn convolve_into(
 )
     requires { ⌜ Kernel matrix (now kernel) ⌝ }
     requires { ⌜ Sized w h × (length (now src) ≡ 4 * w * h) × (length (now dest) ≡ 4 * w * h) ⌝ }
-    ensures { λ _. ⌜ now (dest .exit) ≡ convolvedBy matrix (now (kernel .entry)) w h (now (src .entry)) ⌝ }
+    ensures { λ _. ⌜ became dest ≡ convolvedBy matrix (was kernel) w h (was src) ⌝ }
 {
     let mut row = [0.0f32; WIDENED];
     let mut sums = [0.0f32; SUMS];
-    convolve_rows(matrix, kernel, w, h, src, &mut row, &mut sums, dest);
+    let mut x = 0;
+    while x < w {
+        let n = sheet::strip_from(w, x);
+        convolve_rows(matrix, kernel, w, h, src, x, n, &mut row, &mut sums, dest);
+        x += n;
+    }
 }
 
 // `src` becomes the result: it is worked out from a copy in `scratch`, which is cleared.
@@ -117,8 +133,8 @@ pub fn convolve(
 )
     requires { ⌜ Kernel matrix (now kernel) ⌝ }
     requires { ⌜ Sized w h × (length (now src) ≡ 4 * w * h) × (length (now scratch) ≡ 4 * w * h) ⌝ }
-    ensures { λ _. ⌜ now (src .exit) ≡ convolvedBy matrix (now (kernel .entry)) w h (now (src .entry)) ⌝ }
-    ensures { λ _. ⌜ now (scratch .exit) ≡ zeros (length (now (scratch .entry))) ⌝ }
+    ensures { λ _. ⌜ became src ≡ convolvedBy matrix (was kernel) w h (was src) ⌝ }
+    ensures { λ _. ⌜ became scratch ≡ zeros (length (was scratch)) ⌝ }
 {
     sheet::copy(&src[..], scratch);
     convolve_into(matrix, kernel, w, h, &scratch[..], src);

@@ -23,13 +23,13 @@ enum-told-3 : tie.Need-enum-told-3
 enum-told-3 c = search needs
 
 returns : tie.Need-returns
-returns c = rw (c .before .before .enum-told .given .1, c .before .less-within .ensures, c .less-within2 .ensures) (span-none _ _ _)
+returns c = rw (c .before .before .enum-told .given .1, c .before .less-within .ensures, c .less-within2 .ensures) (span-none _ _ _ _)
 
 returns-2 : tie.Need-returns-2
-returns-2 c = rw (c .enum-told2 .given .1) (span-all _ _ _ _ (read-duplicate _ _))
+returns-2 c = rw (c .enum-told2 .given .1) (span-all _ _ _ _ _ (read-duplicate _ _))
 
 returns-3 : tie.Need-returns-3
-returns-3 c = rw (c .enum-told3 .given .1) (span-all _ _ _ _ (read-wrap _ _))
+returns-3 c = rw (c .enum-told3 .given .1) (span-all _ _ _ _ _ (read-wrap _ _))
 
 pub span-of-spec : {M : Type 1} → statement M
 span-of-spec =

@@ -7,8 +7,8 @@ use native.Mathlib.Omega.{arith}
 use lib.ListN.{getD}
 use lib.Ieee.{Float, nan}
 use Rattle.floats.specs.Operators.{_⊕_, _⊗_}
-use Rattle.convolve_matrix.specs.inner.Rows.{Changed}
-use Rattle.convolve_matrix.proofs.Stretches.{changed-none, changed-more}
+use Rattle.sheet.specs.inner.Strips.{Changed}
+use Rattle.sheet.proofs.Strips.{changed-none, changed-more}
 use Rattle.convolve_matrix.proofs.rows.accumulate.Statement.{statement}
 use Rattle.convolve_matrix.proofs.rows.accumulate.Tie as tie
 

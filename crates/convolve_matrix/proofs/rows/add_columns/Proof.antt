@@ -11,11 +11,11 @@ use Rattle.convolve_matrix.proofs.rows.add_columns.Statement.{statement
 use Rattle.convolve_matrix.proofs.rows.add_columns.Tie as tie
 
 abbrev Inv-loop : tie.InvT-loop
-Inv-loop kernel oy w row sums₀ mode columns target base ox₀ sums ox =
-    (ox ≤ columns) × Added (λ x c. inOrder ox (shifted mode target w kernel base columns row x c)) w sums₀ sums
+Inv-loop kernel oy w x n row sums₀ mode columns target base ox₀ sums ox =
+    (ox ≤ columns) × Added (λ i c. inOrder ox (shifted mode target w x kernel base columns row i c)) n sums₀ sums
 
 abbrev μ-loop : tie.MeasureT-loop
-μ-loop kernel oy w row sums₀ mode columns target base ox₀ sums ox = columns - ox
+μ-loop kernel oy w x n row sums₀ mode columns target base ox₀ sums ox = columns - ox
 
 cast-columns : tie.Need-cast-columns Inv-loop μ-loop
 cast-columns c = search needs
@@ -77,6 +77,9 @@ shared-slice-read-k c =
     let n = p .0 .0 .numbers in
     search needs
 
+add-span-of : tie.Need-add-span-of Inv-loop μ-loop
+add-span-of c = search needs
+
 span-of-requires : tie.Need-span-of-requires Inv-loop μ-loop
 span-of-requires c κs =
     let the-pre = c .before .before .before .before .before .before .before .before .before .pre in
@@ -85,8 +88,8 @@ span-of-requires c κs =
     let b = p .wide in
     search needs
 
-sub-n : tie.Need-sub-n Inv-loop μ-loop
-sub-n c = search needs
+sub-count : tie.Need-sub-count Inv-loop μ-loop
+sub-count c = search needs
 
 add-accumulate : tie.Need-add-accumulate Inv-loop μ-loop
 add-accumulate c = search needs
@@ -116,7 +119,7 @@ loop-again c =
     let i = the-loop .inv in
     let a = c .before .before .before .before .before .before .before .before .before .before .before .before .before .before .before .args in
     let base = (a .matrix .rows - a .oy - 1) * a .matrix .columns in
-    (search needs, added-more _ _ _ (i .1) (column-added _ _ _ (a .kernel .now) base (a .matrix .columns) (a .row .now) _ _ _ (the-span-of .ensures) (the-loop .sums) _ (c .before .before .accumulate .ensures)))
+    (search needs, added-more _ _ _ (i .1) (column-added _ _ _ _ _ (a .kernel .now) base (a .matrix .columns) (a .row .now) _ _ _ (the-span-of .ensures) (the-loop .sums) _ (c .before .before .accumulate .ensures)))
 
 same-length : tie.Need-same-length Inv-loop μ-loop
 same-length c = search needs
@@ -146,8 +149,9 @@ add-columns-spec =
     add-k
     mul-k
     shared-slice-read-k
+    add-span-of
     span-of-requires
-    sub-n
+    sub-count
     add-accumulate
     mul-accumulate
     mul-accumulate-2

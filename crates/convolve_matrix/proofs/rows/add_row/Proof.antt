@@ -17,7 +17,7 @@ is-read-requires : tie.Need-is-read-requires
 is-read-requires c κs = search needs
 
 returns : tie.Need-returns
-returns c = row-skipped _ _ _ _ _ _ _ (denied (c .before .is-read .ensures) (c .if1 .taken)) _
+returns c = row-skipped _ _ _ _ _ _ _ _ _ (denied (c .before .is-read .ensures) (c .if1 .taken)) _
 
 add-place : tie.Need-add-place
 add-place c = search needs
@@ -59,14 +59,14 @@ widen-requires c κs =
     let n = p .1 .0 .1 in
     let high = s .high in
     let l = line-inside (a .w) (a .h) (c .before .before .before .place .result) (rw (c .before .before .before .place .ensures) (placed _ _ _ high _)) in
-    ((s .wide, omega arith), (p .0 .0 .across, p .1 .1 .0))
+    ((s .wide, omega arith, p .1 .0 .2), (p .0 .0 .across, p .1 .1 .0))
 
 add-columns-requires : tie.Need-add-columns-requires
 add-columns-requires c κs =
     let p = c .before .before .before .before .before .before .before .before .before .before .before .before .before .before .before .before .pre in
     let s = c .before .before .before .before .widen .ensures .same in
     let r = p .1 .1 .0 in
-    ((p .0 .0, p .0 .1, p .1 .0 .0 .wide-most), (omega arith, p .1 .1 .1))
+    ((p .0 .0, p .0 .1), ((p .1 .0 .0 .wide-most, p .1 .0 .2), (omega arith, p .1 .1 .1)))
 
 same-length : tie.Need-same-length
 same-length c = search needs
@@ -80,7 +80,7 @@ returns-2 c =
     let the-is-read = c .before .before .before .before .before .before .before .before .before .before .before .before .before .is-read in
     let the-if1 = c .before .before .before .before .before .before .before .before .before .before .before .before .if1 in
     let the-widen = c .before .before .before .before .before .before .before .widen in
-    row-added _ _ _ _ _ _ _ _ (the-place .ensures) (allowed (the-is-read .ensures) (the-if1 .left)) (the-widen .ensures) (c .before .before .add-columns .ensures)
+    row-added _ _ _ _ _ _ _ _ _ _ (the-place .ensures) (allowed (the-is-read .ensures) (the-if1 .left)) (the-widen .ensures) (c .before .before .add-columns .ensures)
 
 pub add-row-spec : {M : Type 1} → statement M
 add-row-spec =

@@ -1,6 +1,6 @@
 -- Each turn takes in one more row of the window.
 use borrow.Author.Needs.{needs}
-use Prim.Native.Nat.{_-_, _≤_}
+use Prim.Native.Nat.{_+_, _-_, _≤_}
 use mathlib.Core.Path.{_≡_}
 use native.Mathlib.Omega.{arith}
 use lib.ListN.{length}
@@ -11,11 +11,11 @@ use Rattle.convolve_matrix.proofs.rows.add_rows.Statement.{statement}
 use Rattle.convolve_matrix.proofs.rows.add_rows.Tie as tie
 
 abbrev Inv-loop : tie.InvT-loop
-Inv-loop matrix kernel w h src y row₀ sums₀ rows oy₀ row sums oy =
-    (oy ≤ rows) × ((length row ≡ length row₀) × Added (λ x c. inOrder oy (rowSum matrix kernel w h src x y c)) w sums₀ sums)
+Inv-loop matrix kernel w h src x n y row₀ sums₀ rows oy₀ row sums oy =
+    (oy ≤ rows) × ((length row ≡ length row₀) × Added (λ i c. inOrder oy (rowSum matrix kernel w h src (x + i) y c)) n sums₀ sums)
 
 abbrev μ-loop : tie.MeasureT-loop
-μ-loop matrix kernel w h src y row₀ sums₀ rows oy₀ row sums oy = rows - oy
+μ-loop matrix kernel w h src x n y row₀ sums₀ rows oy₀ row sums oy = rows - oy
 
 cast-rows : tie.Need-cast-rows Inv-loop μ-loop
 cast-rows c = search needs
@@ -31,7 +31,7 @@ add-row-requires c κs =
     let l = i .1 .0 in
     let r = p .1 .1 .0 in
     let n = p .1 .1 .1 in
-    ((p .0 .0, c .before .before .loop-test .taken, p .0 .1), ((p .1 .0 .0, p .1 .0 .1), (omega arith, omega arith)))
+    ((p .0 .0, c .before .before .loop-test .taken, p .0 .1), ((p .1 .0 .0, p .1 .0 .1, p .1 .0 .2), (omega arith, omega arith)))
 
 add-oy : tie.Need-add-oy Inv-loop μ-loop
 add-oy c = search needs

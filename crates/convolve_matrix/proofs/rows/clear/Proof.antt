@@ -5,8 +5,8 @@ use mathlib.Core.Path.{_≡_, refl}
 use native.Mathlib.Omega.{arith}
 use lib.Ieee.{nan}
 use Rattle.floats.specs.Constants.{c0}
-use Rattle.convolve_matrix.specs.inner.Rows.{Changed}
-use Rattle.convolve_matrix.proofs.Stretches.{changed-none, changed-more}
+use Rattle.sheet.specs.inner.Strips.{Changed}
+use Rattle.sheet.proofs.Strips.{changed-none, changed-more}
 use Rattle.convolve_matrix.proofs.rows.clear.Statement.{statement}
 use Rattle.convolve_matrix.proofs.rows.clear.Tie as tie
 

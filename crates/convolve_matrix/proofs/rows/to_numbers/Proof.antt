@@ -6,8 +6,8 @@ use native.Mathlib.Omega.{arith}
 use lib.ListN.{getD}
 use lib.Ieee.{nan}
 use Rattle.floats.specs.Channel.{normalized}
-use Rattle.convolve_matrix.specs.inner.Rows.{Changed}
-use Rattle.convolve_matrix.proofs.Stretches.{changed-none, changed-more}
+use Rattle.sheet.specs.inner.Strips.{Changed}
+use Rattle.sheet.proofs.Strips.{changed-none, changed-more}
 use Rattle.convolve_matrix.proofs.rows.to_numbers.Statement.{statement}
 use Rattle.convolve_matrix.proofs.rows.to_numbers.Tie as tie
 

@@ -23,6 +23,14 @@ mul-finish-row c =
     let l = line-inside (a .w) (a .h) (a .y) (p .0 .1) in
     record { fits = omega arith }
 
+add-finish-row : tie.Need-add-finish-row
+add-finish-row c =
+    let a = c .before .before .before .before .before .before .before .before .before .before .before .before .before .before .before .before .before .args in
+    let p = c .before .before .before .before .before .before .before .before .before .before .before .before .before .before .before .before .before .pre in
+    let area = p .1 .0 .0 .area in
+    let l = line-inside (a .w) (a .h) (a .y) (p .0 .1) in
+    record { fits = omega arith }
+
 mul-finish-row-2 : tie.Need-mul-finish-row-2
 mul-finish-row-2 c =
     let a = c .before .before .before .before .before .before .before .before .before .before .before .before .before .before .before .before .before .args in
@@ -40,10 +48,11 @@ finish-row-requires c κs =
     let l = line-inside (a .w) (a .h) (a .y) (p .0 .1) in
     let s = the-clear .ensures .same in
     let t = the-add-rows .ensures .same in
-    let wide = p .1 .0 .0 .wide-most in
+    let fits = p .1 .1 .0 .0 in
+    let few = p .1 .1 .0 .1 in
     let src = p .1 .0 .1 in
     let dest = p .1 .0 .2 in
-    let sums = p .1 .1 .1 in
+    let sums = p .1 .1 .1 .1 in
     (omega arith, omega arith, omega arith)
 
 same-length : tie.Need-same-length
@@ -59,7 +68,8 @@ returns : tie.Need-returns
 returns c =
     let the-clear = c .before .before .before .before .before .before .before .before .before .before .before .before .before .before .clear in
     let the-add-rows = c .before .before .before .before .before .before .before .before .before .add-rows in
-    row-finished _ _ _ _ _ _ _ _ _ (the-clear .ensures) (the-add-rows .ensures) (c .before .before .finish-row .ensures)
+    let p = c .before .before .before .before .before .before .before .before .before .before .before .before .before .before .before .before .before .before .before .before .before .pre in
+    row-finished _ _ _ _ _ _ _ _ (p .1 .1 .0 .0) _ _ _ (the-clear .ensures) (the-add-rows .ensures) (c .before .before .finish-row .ensures)
 
 pub convolve-row-spec : {M : Type 1} → statement M
 convolve-row-spec =
@@ -69,6 +79,7 @@ convolve-row-spec =
     clear-requires
     add-rows-requires
     mul-finish-row
+    add-finish-row
     mul-finish-row-2
     finish-row-requires
     same-length

@@ -3,20 +3,21 @@ use borrow.Author.Needs.{needs}
 use Prim.Native.Nat.{_-_, _*_, _%_, _≤_}
 use mathlib.Core.Path.{_≡_, refl}
 use native.Mathlib.Omega.{arith}
-use Rattle.convolve_matrix.specs.inner.Rows.{Changed, finishedAt}
-use Rattle.convolve_matrix.proofs.Stretches.{changed-none}
-use Rattle.convolve_matrix.proofs.Finishing.{pixel-finished, pixel-stored}
+use Rattle.sheet.specs.inner.Strips.{Changed}
+use Rattle.sheet.proofs.Strips.{changed-none, pixel-stored}
+use Rattle.convolve_matrix.specs.inner.Rows.{finishedAt}
+use Rattle.convolve_matrix.proofs.Finishing.{pixel-finished}
 use Rattle.convolve_matrix.proofs.sheets.finish_row.Statement.{statement}
 use Rattle.convolve_matrix.proofs.sheets.finish_row.Tie as tie
 
 abbrev Inv-loop : tie.InvT-loop
-Inv-loop matrix sums src first w dest₀ n k₀ dest k = (k ≤ n) × ((k % 4 ≡ 0) × Changed 0 (finishedAt matrix sums src first) first k dest₀ dest)
+Inv-loop matrix sums src first n dest₀ end k₀ dest k = (k ≤ end) × ((k % 4 ≡ 0) × Changed 0 (finishedAt matrix sums src first) first k dest₀ dest)
 
 abbrev μ-loop : tie.MeasureT-loop
-μ-loop matrix sums src first w dest₀ n k₀ dest k = n - k
+μ-loop matrix sums src first n dest₀ end k₀ dest k = end - k
 
-mul-n : tie.Need-mul-n Inv-loop μ-loop
-mul-n c = search needs
+mul-end : tie.Need-mul-end Inv-loop μ-loop
+mul-end c = search needs
 
 loop-holds : tie.Need-loop-holds Inv-loop μ-loop
 loop-holds c = (search needs, (refl, changed-none _ _ _ _))
@@ -84,7 +85,7 @@ loop-again c =
     let i = the-loop .inv in
     let a = c .before .before .before .before .before .before .before .before .before .before .before .before .before .before .before .args in
     let s = i .1 .1 .same in
-    (search needs, (search needs, pixel-stored (i .1 .1) (search needs) (c .before .before .put-premultiplied .ensures) (pixel-finished (a .matrix) (a .sums .now) (a .src .now) (a .first) (the-loop .k) (i .1 .0) (c .before .before .before .before .finished .ensures))))
+    (search needs, (search needs, pixel-stored (i .1 .1) refl (search needs) (c .before .before .put-premultiplied .ensures) (pixel-finished (a .matrix) (a .sums .now) (a .src .now) (a .first) (the-loop .k) (i .1 .0) (c .before .before .before .before .finished .ensures))))
 
 same-length : tie.Need-same-length Inv-loop μ-loop
 same-length c = search needs
@@ -93,7 +94,7 @@ returns : tie.Need-returns Inv-loop μ-loop
 returns c =
     let the-args = c .before .before .before .before .before .args in
     let m = c .before .loop .inv .1 .1 in
-    let z : c .before .loop .k ≡ 4 * the-args .w = omega arith in
+    let z : c .before .loop .k ≡ 4 * the-args .n = omega arith in
     rw z at m
 
 pub finish-row-spec : {M : Type 1} → statement M
@@ -102,7 +103,7 @@ finish-row-spec =
     (tie.spec
     Inv-loop
     μ-loop
-    mul-n
+    mul-end
     loop-holds
     mul-finished
     shared-slice-read-finished
