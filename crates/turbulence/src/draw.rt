@@ -5,22 +5,24 @@ use crate::noise::COLUMNS;
 use crate::tables;
 use sheet::pixel::Straight;
 ghost use mathlib.Core.Path.{_≡_};
-ghost use Prim.Native.Nat.{ℕ, _+_, _*_, _≤_, _<_};
+ghost use Prim.Native.Nat.{_+_, _*_, _≤_, _<_};
 ghost use lib.Dec.{T};
 ghost use lib.ListN.{length};
 ghost use Rattle.floats.specs.inner.Steps.{upTo};
+ghost use Rattle.sheet.specs.Contract.{was, became};
 ghost use Rattle.sheet.specs.Size.{Sized, sideLimit};
+ghost use Rattle.sheet.specs.inner.Strips.{stripLimit, Worked};
 ghost use Rattle.turbulence.specs.Turbulence.{pointOn, scaledSum, byteOf, drawn};
 ghost use Rattle.turbulence.specs.inner.Levels.{levelOf, Parts};
-ghost use Rattle.turbulence.specs.inner.Rows.{RowOf};
-ghost use Rattle.turbulence.specs.inner.Columns.{ColumnOf, ColumnsOf};
-ghost use Rattle.turbulence.specs.inner.Drawn.{bytesBy, PixelBy, RowRoom, Begun};
+ghost use Rattle.turbulence.specs.inner.Columns.{ColumnsOf};
+ghost use Rattle.turbulence.specs.inner.Drawn.{bytesBy, PixelIn, RowDrawn};
 
 // The point of pixel n on an axis, in user space and times the frequency.
-fn point_on(offset: f64, scale: f64, frequency: f64, n: u32) -> f64
+fn point_on(offset: f64, scale: f64, frequency: f64, n: usize) -> f64
+    requires { ⌜ n < sideLimit ⌝ }
     ensures { λ r. ⌜ r ≡ pointOn offset scale frequency n ⌝ }
 {
-    (n as f64 + offset) / scale * frequency
+    (n as u32 as f64 + offset) / scale * frequency
 }
 
 // A sum as a number from 0 to 255.
@@ -67,7 +69,7 @@ fn byte_of(fractal: bool, n: f64) -> u8
     level_of(value)
 }
 
-// The pixel in column x of a row.
+// The pixel of the column in place i and a row.
 fn pixel<'a>(
     t: Turbulence,
     selector: &[u8; 514],
@@ -79,10 +81,10 @@ fn pixel<'a>(
     cells: &'a [u8; 8],
     fractions: &'a [f64; 8],
     curves: &'a [f64; 8],
-    x: u32,
+    i: usize,
 ) -> Straight
-    requires { ⌜ (t .«num_octaves» ≤ 8) × (x < sideLimit) × ColumnOf t (now selector) x (now lower) (now upper) (now across) ⌝ }
-    ensures { λ p. ⌜ ((y : ℕ) → RowOf t y (now (cells .entry)) (now (fractions .entry)) (now (curves .entry)) → PixelBy t (now (selector .entry)) (now (gx .entry)) (now (gy .entry)) x y (p .0)) ⌝ }
+    requires { ⌜ (t .«num_octaves» ≤ 8) × (i < stripLimit) ⌝ }
+    ensures { λ p. ⌜ PixelIn t (was selector) (was gx) (was gy) (was lower) (was upper) (was across) (was cells) (was fractions) (was curves) i (p .0) ⌝ }
 {
     let sum = noise::turbulence(
         t,
@@ -95,7 +97,7 @@ fn pixel<'a>(
         cells,
         fractions,
         curves,
-        x,
+        i,
     );
     Straight::of(
         byte_of(t.fractal_noise, sum.r),
@@ -105,7 +107,7 @@ fn pixel<'a>(
     )
 }
 
-// Row y is written, from the byte `start` on.
+// Row y is drawn in the `count` columns from column `first` on.
 fn draw_row(
     t: Turbulence,
     selector: &[u8; 514],
@@ -114,19 +116,20 @@ fn draw_row(
     lower: &[u8; COLUMNS],
     upper: &[u8; COLUMNS],
     across: &[f64; COLUMNS],
-    y: u32,
-    width: u32,
-    start: usize,
+    y: usize,
+    width: usize,
+    first: usize,
+    count: usize,
     dest: &mut [u8],
 )
-    requires { ⌜ (t .«num_octaves» ≤ 8) × (width ≤ sideLimit) × ColumnsOf t (now selector) width (now lower) (now upper) (now across) ⌝ }
-    requires { ⌜ RowRoom width y start (now dest) × Begun (bytesBy t (now selector) (now gx) (now gy) width) start (now dest) ⌝ }
-    ensures begun { λ _. ⌜ Begun (bytesBy t (now (selector .entry)) (now (gx .entry)) (now (gy .entry)) width) (start + 4 * width) (now (dest .exit)) ⌝ }
-    ensures same { λ _. ⌜ length (now (dest .exit)) ≡ length (now (dest .entry)) ⌝ }
+    requires { ⌜ (t .«num_octaves» ≤ 8) × (y < sideLimit) × (first + count ≤ width) × (count ≤ stripLimit) ⌝ }
+    requires { ⌜ (4 * (y * width + first) + 4 * count ≤ length (now dest)) × ColumnsOf t (now selector) first count (now lower) (now upper) (now across) ⌝ }
+    ensures { λ _. ⌜ RowDrawn t (was selector) (was gx) (was gy) width y first count (was dest) (became dest) ⌝ }
 {
     let row = noise::row_at(point_on(t.offset_y, t.sy, t.base_frequency_y, y));
-    let mut x: u32 = 0;
-    while x < width {
+    let start = 4 * (y * width + first);
+    let mut i: usize = 0;
+    while i < count {
         let drawn = pixel(
             t,
             selector,
@@ -138,38 +141,80 @@ fn draw_row(
             &row.cells,
             &row.fractions,
             &row.curves,
-            x,
+            i,
         );
-        sheet::pixel::put_straight(dest, start + 4 * x as usize, drawn);
-        x += 1;
+        sheet::pixel::put_straight(dest, start + 4 * i, drawn);
+        i += 1;
     }
 }
 
-// The columns of the sheet are stored one after the other, once for all its rows.
+// Every row is drawn in the `count` columns from column `first` on.
+fn draw_rows(
+    t: Turbulence,
+    selector: &[u8; 514],
+    gx: &[f64; 2056],
+    gy: &[f64; 2056],
+    lower: &[u8; COLUMNS],
+    upper: &[u8; COLUMNS],
+    across: &[f64; COLUMNS],
+    width: usize,
+    height: usize,
+    first: usize,
+    count: usize,
+    dest: &mut [u8],
+)
+    requires { ⌜ (t .«num_octaves» ≤ 8) × (height ≤ sideLimit) × (first + count ≤ width) × (count ≤ stripLimit) ⌝ }
+    requires { ⌜ (length (now dest) ≡ 4 * width * height) × ColumnsOf t (now selector) first count (now lower) (now upper) (now across) ⌝ }
+    requires { ⌜ Worked (bytesBy t (now selector) (now gx) (now gy) width) width first count 0 (now dest) ⌝ }
+    ensures worked { λ _. ⌜ Worked (bytesBy t (now (selector .entry)) (now (gx .entry)) (now (gy .entry)) width) width first count height (now (dest .exit)) ⌝ }
+    ensures same { λ _. ⌜ length (now (dest .exit)) ≡ length (now (dest .entry)) ⌝ }
+{
+    let mut y: usize = 0;
+    while y < height {
+        draw_row(
+            t,
+            selector,
+            gx,
+            gy,
+            lower,
+            upper,
+            across,
+            y,
+            width,
+            first,
+            count,
+            dest,
+        );
+        y += 1;
+    }
+}
+
+// The `count` columns from column `first` on are stored one after the other, once for all the rows.
 fn fill_columns(
     t: Turbulence,
     selector: &[u8; 514],
-    width: u32,
+    first: usize,
+    count: usize,
     lower: &mut [u8],
     upper: &mut [u8],
     across: &mut [f64],
 )
-    requires { ⌜ (t .«num_octaves» ≤ 8) × (width ≤ sideLimit) ⌝ }
-    requires { ⌜ (length (now lower) ≡ 16384) × (length (now upper) ≡ 16384) × (length (now across) ≡ 16384) ⌝ }
-    ensures { λ _. ⌜ ColumnsOf t (now (selector .entry)) width (now (lower .exit)) (now (upper .exit)) (now (across .exit)) ⌝ }
+    requires { ⌜ (t .«num_octaves» ≤ 8) × (first + count ≤ sideLimit) × (count ≤ stripLimit) ⌝ }
+    requires { ⌜ (length (now lower) ≡ 8 * stripLimit) × (length (now upper) ≡ 8 * stripLimit) × (length (now across) ≡ 8 * stripLimit) ⌝ }
+    ensures { λ _. ⌜ ColumnsOf t (now (selector .entry)) first count (now (lower .exit)) (now (upper .exit)) (now (across .exit)) ⌝ }
 {
     let octaves = t.num_octaves as usize;
     let mut start: usize = 0;
-    let mut x: u32 = 0;
-    while x < width {
-        let x0 = point_on(t.offset_x, t.sx, t.base_frequency_x, x);
+    let mut i: usize = 0;
+    while i < count {
+        let x0 = point_on(t.offset_x, t.sx, t.base_frequency_x, first + i);
         noise::column_at(octaves, selector, x0, start, lower, upper, across);
         start += octaves;
-        x += 1;
+        i += 1;
     }
 }
 
-// Every pixel of `dest` is written.
+// Every pixel of `dest` is written, strip by strip.
 pub fn draw(t: Turbulence, width: usize, height: usize, dest: &mut [u8])
     requires { ⌜ Sized width height ⌝ }
     requires { ⌜ length (now dest) ≡ 4 * width * height ⌝ }
@@ -180,15 +225,14 @@ pub fn draw(t: Turbulence, width: usize, height: usize, dest: &mut [u8])
     let selector = tables.selector;
     let gx = tables.x;
     let gy = tables.y;
-    let wide = width as u32;
     let mut lower = [0u8; COLUMNS];
     let mut upper = [0u8; COLUMNS];
     let mut across = [0.0f64; COLUMNS];
-    fill_columns(t, &selector, wide, &mut lower, &mut upper, &mut across);
-    let mut y: u32 = 0;
-    let mut at = 0;
-    while at < dest.len() {
-        draw_row(
+    let mut x: usize = 0;
+    while x < width {
+        let n = sheet::strip_from(width, x);
+        fill_columns(t, &selector, x, n, &mut lower, &mut upper, &mut across);
+        draw_rows(
             t,
             &selector,
             &gx,
@@ -196,12 +240,12 @@ pub fn draw(t: Turbulence, width: usize, height: usize, dest: &mut [u8])
             &lower,
             &upper,
             &across,
-            y,
-            wide,
-            at,
+            width,
+            height,
+            x,
+            n,
             dest,
         );
-        y += 1;
-        at += 4 * width;
+        x += n;
     }
 }

@@ -4,19 +4,20 @@ use crate::Turbulence;
 use crate::lattice::cell;
 use crate::lattice::fraction;
 use crate::lattice::place_of;
-use sheet::SIDE_LIMIT;
+use sheet::STRIP;
 ghost use mathlib.Core.Path.{_≡_};
 ghost use Prim.Native.Nat.{_+_, _≤_, _<_};
 ghost use lib.ListN.{length, getD};
 ghost use lib.Ieee.{nan};
-ghost use Rattle.sheet.specs.Size.{sideLimit};
+ghost use Rattle.sheet.specs.Contract.{was};
+ghost use Rattle.sheet.specs.inner.Strips.{stripLimit, Changed};
 ghost use Rattle.turbulence.specs.Noise as Noise;
 ghost use Rattle.turbulence.specs.inner.Rows.{RowAt, fractionIn};
-ghost use Rattle.turbulence.specs.inner.Columns.{Extended, lowerIn, upperIn, ColumnOf, pointWith};
+ghost use Rattle.turbulence.specs.inner.Columns.{lowerIn, upperIn, pointWith};
 ghost use Rattle.turbulence.specs.inner.Sums.{none, SumIn, CornersInside, WithOctave, noisesOf, sizesOf, addedTo};
 
-// Places for each octave of the most columns.
-pub const COLUMNS: usize = SIDE_LIMIT * OCTAVE_LIMIT as usize;
+// Places for each octave of the most columns of a strip.
+pub const COLUMNS: usize = STRIP * OCTAVE_LIMIT as usize;
 
 // What the four channels share at a point: the gradient numbers of the four corners round it, its place among them and
 // the curves of that.
@@ -169,9 +170,9 @@ pub fn column_at(
     across: &mut [f64],
 )
     requires { ⌜ (start + octaves ≤ length (now lower)) × (start + octaves ≤ length (now upper)) × (start + octaves ≤ length (now across)) ⌝ }
-    ensures { λ _. ⌜ Extended 0 (lowerIn (now (selector .entry)) x0) start octaves (now (lower .entry)) (now (lower .exit)) ⌝ }
-    ensures { λ _. ⌜ Extended 0 (upperIn (now (selector .entry)) x0) start octaves (now (upper .entry)) (now (upper .exit)) ⌝ }
-    ensures { λ _. ⌜ Extended nan (fractionIn x0) start octaves (now (across .entry)) (now (across .exit)) ⌝ }
+    ensures { λ _. ⌜ Changed 0 (lowerIn (now (selector .entry)) x0) start octaves (now (lower .entry)) (now (lower .exit)) ⌝ }
+    ensures { λ _. ⌜ Changed 0 (upperIn (now (selector .entry)) x0) start octaves (now (upper .entry)) (now (upper .exit)) ⌝ }
+    ensures { λ _. ⌜ Changed nan (fractionIn x0) start octaves (now (across .entry)) (now (across .exit)) ⌝ }
 {
     let mut x = x0;
     let mut k: usize = 0;
@@ -187,7 +188,7 @@ pub fn column_at(
     }
 }
 
-// The four channels' sums over the octaves, in column x of a row.
+// The four channels' sums over the octaves, of the column in place i and a row.
 pub fn turbulence(
     t: Turbulence,
     selector: &[u8; 514],
@@ -199,13 +200,13 @@ pub fn turbulence(
     cells: &[u8; 8],
     fractions: &[f64; 8],
     curves: &[f64; 8],
-    x: u32,
+    i: usize,
 ) -> Channels
-    requires { ⌜ (t .«num_octaves» ≤ 8) × (x < sideLimit) × ColumnOf t (now selector) x (now lower) (now upper) (now across) ⌝ }
-    ensures { λ s. ⌜ SumIn t (now (selector .entry)) (now (gx .entry)) (now (gy .entry)) (now (cells .entry)) (now (fractions .entry)) (now (curves .entry)) x s ⌝ }
+    requires { ⌜ (t .«num_octaves» ≤ 8) × (i < stripLimit) ⌝ }
+    ensures { λ s. ⌜ SumIn t (was selector) (was gx) (was gy) (was lower) (was upper) (was across) (was cells) (was fractions) (was curves) i s ⌝ }
 {
     let octaves = t.num_octaves as usize;
-    let start = x as usize * octaves;
+    let start = i * octaves;
     let mut sum = no_sum();
     // The octave's ratio is a power of two, and a product with its inverse is the quotient by it.
     let mut inverse: f64 = 1.0;

@@ -2,7 +2,7 @@
 use Prim.Native.Nat.{ℕ, _+_, _*_, _<_}
 use mathlib.Core.Path.{_≡_}
 use mathlib.Core.List.{List}
-use lib.ListN.{length, getD}
+use lib.ListN.{getD}
 use lib.Ieee.{Float, nan}
 use Rattle.floats.specs.Operators.{_⊟_}
 use Rattle.turbulence.specs.declared.Turbulence.{Turbulence}
@@ -18,25 +18,19 @@ lowerIn selector x k = getD selector (cellIn x k) 0
 abbrev pub upperIn : List ℕ → Float → ℕ → ℕ
 upperIn selector x k = getD selector (nextCell (cellIn x k)) 0
 
--- in l′ the n elements from `start` on are f 0, f 1, .., and those before it are as in l; z is what `getD` gives past the end
-pub record Extended {A : Type 0} (z : A) (f : ℕ → A) (start n : ℕ) (l l′ : List A) : Type 0 where
-  pub same : length l′ ≡ length l
-  pub stored : (k : ℕ) → k < n → getD l′ (start + k) z ≡ f k
-  pub kept : (i : ℕ) → i < start → getD l′ i z ≡ getD l i z
-
 -- the three lists have the column at x from `start` on
 pub record ColumnAt (selector : List ℕ) (octaves : ℕ) (x : Float) (start : ℕ) (lower upper : List ℕ) (across : List Float) : Type 0 where
   pub lower-is : (k : ℕ) → k < octaves → getD lower (start + k) 0 ≡ lowerIn selector x k
   pub upper-is : (k : ℕ) → k < octaves → getD upper (start + k) 0 ≡ upperIn selector x k
   pub across-is : (k : ℕ) → k < octaves → getD across (start + k) nan ≡ fractionIn x k
 
--- column x of the sheet
-abbrev pub ColumnOf : Turbulence → List ℕ → ℕ → List ℕ → List ℕ → List Float → Type 0
-ColumnOf t selector x lower upper across = ColumnAt selector (t .«num_octaves») (columnPoint t x) (x * t .«num_octaves») lower upper across
+-- column x of the sheet stands in place i
+abbrev pub ColumnOf : Turbulence → List ℕ → (x i : ℕ) → List ℕ → List ℕ → List Float → Type 0
+ColumnOf t selector x i lower upper across = ColumnAt selector (t .«num_octaves») (columnPoint t x) (i * t .«num_octaves») lower upper across
 
--- each column below w
-abbrev pub ColumnsOf : Turbulence → List ℕ → ℕ → List ℕ → List ℕ → List Float → Type 0
-ColumnsOf t selector w lower upper across = (x : ℕ) → x < w → ColumnOf t selector x lower upper across
+-- the columns from `first` on stand in the places from 0 on, as many as `count`
+abbrev pub ColumnsOf : Turbulence → List ℕ → (first count : ℕ) → List ℕ → List ℕ → List Float → Type 0
+ColumnsOf t selector first count lower upper across = (i : ℕ) → i < count → ColumnOf t selector (first + i) i lower upper across
 
 -- the point between two columns by their selector entries i and j, below the row b, by its fractions and lower curve
 abbrev pub pointWith : List ℕ → (i j : ℕ) → (rx : Float) → (b : ℕ) → (ry sy : Float) → Point

@@ -1,12 +1,13 @@
--- Words of the private functions' contracts: what a pixel is, and how far a sheet is drawn.
-use Prim.Native.Nat.{ℕ, _+_, _*_, _%_, _≤_, _<_}
-use mathlib.Core.Path.{_≡_}
+-- Words of the private functions' contracts: what a pixel is, a byte of a sheet, and a row of a strip.
+use Prim.Native.Nat.{ℕ, _+_, _*_, _%_}
 use mathlib.Core.List.{List}
-use lib.ListN.{length, getD}
 use lib.Ieee.{Float}
 use Rattle.sheet.specs.Pixel.{Channels, column, row}
+use Rattle.sheet.specs.inner.Strips.{Changed}
 use Rattle.turbulence.specs.declared.Turbulence.{Turbulence}
 use Rattle.turbulence.specs.Turbulence.{valueBy, byteOf}
+use Rattle.turbulence.specs.inner.Rows.{RowOf}
+use Rattle.turbulence.specs.inner.Columns.{ColumnOf}
 
 -- channel c of the pixel in column x and row y, by a selector and gradients
 abbrev pub byteBy : Turbulence → List ℕ → List Float → List Float → (c x y : ℕ) → ℕ
@@ -21,13 +22,11 @@ abbrev pub PixelBy : Turbulence → List ℕ → List Float → List Float → (
 PixelBy t selector gx gy x y p =
     Channels p (byteBy t selector gx gy 0 x y) (byteBy t selector gx gy 1 x y) (byteBy t selector gx gy 2 x y) (byteBy t selector gx gy 3 x y)
 
--- row y begins at byte i of d, a sheet of whole pixels and of w columns, and lies within it
-pub record RowRoom (w y i : ℕ) (d : List ℕ) : Type 0 where
-  pub start : i ≡ 4 * (y * w)
-  pub room : i + 4 * w ≤ length d
-  pub pixels : length d % 4 ≡ 0
+-- p is the pixel of the column that stands in place i and of the row of the last three lists, whichever those are
+abbrev pub PixelIn : Turbulence → List ℕ → List Float → List Float → (lower upper : List ℕ) → (across : List Float) → (cells : List ℕ) → (fractions curves : List Float) → ℕ → ℕ → Type 0
+PixelIn t selector gx gy lower upper across cells fractions curves i p =
+    (x y : ℕ) → ColumnOf t selector x i lower upper across → RowOf t y cells fractions curves → PixelBy t selector gx gy x y p
 
--- f k stands at each k below n
-pub record Begun (f : ℕ → ℕ) (n : ℕ) (d : List ℕ) : Type 0 where
-  pub within : n ≤ length d
-  pub stored : (k : ℕ) → k < n → getD d k 0 ≡ f k
+-- the bytes of row y in the n columns from x on became those of a sheet that is w pixels wide
+abbrev pub RowDrawn : Turbulence → List ℕ → List Float → List Float → (w y x n : ℕ) → (d d′ : List ℕ) → Type 0
+RowDrawn t selector gx gy w y x n d d′ = Changed 0 (λ j. bytesBy t selector gx gy w (4 * (y * w + x) + j)) (4 * (y * w + x)) (4 * n) d d′

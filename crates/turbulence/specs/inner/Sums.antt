@@ -12,6 +12,7 @@ use Rattle.turbulence.specs.declared.noise.Channels.{Channels}
 use Rattle.turbulence.specs.Constants.{d0, d1}
 use Rattle.turbulence.specs.Noise.{noise, octave, summed}
 use Rattle.turbulence.specs.inner.Rows.{columnPoint, rowPoint, RowOf}
+use Rattle.turbulence.specs.inner.Columns.{ColumnOf}
 
 -- every corner has one of the first 256 gradients
 abbrev pub CornersInside : Point → Type 0
@@ -57,7 +58,7 @@ pub record Sum (fractal : Bool) (n : ℕ) (selector : List ℕ) (gx gy : List Fl
 abbrev pub none : Channels
 none = record { r = d0; g = d0; b = d0; a = d0 }
 
--- s are the four channels' sums in column x of the row of these three lists, whichever row that is
-abbrev pub SumIn : Turbulence → List ℕ → List Float → List Float → List ℕ → List Float → List Float → ℕ → Channels → Type 0
-SumIn t selector gx gy cells fractions curves x s =
-    (y : ℕ) → RowOf t y cells fractions curves → Sum (t .«fractal_noise») (t .«num_octaves») selector gx gy (columnPoint t x) (rowPoint t y) d1 none s
+-- s are the four channels' sums of the column in place i and of the row of these three lists, whichever column and row they are
+abbrev pub SumIn : Turbulence → List ℕ → List Float → List Float → (lower upper : List ℕ) → (across : List Float) → (cells : List ℕ) → (fractions curves : List Float) → ℕ → Channels → Type 0
+SumIn t selector gx gy lower upper across cells fractions curves i s =
+    (x y : ℕ) → ColumnOf t selector x i lower upper across → RowOf t y cells fractions curves → Sum (t .«fractal_noise») (t .«num_octaves») selector gx gy (columnPoint t x) (rowPoint t y) d1 none s

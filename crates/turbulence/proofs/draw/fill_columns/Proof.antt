@@ -4,42 +4,49 @@ use Prim.Native.Nat.{_+_, _-_, _*_, _≤_}
 use mathlib.Core.Path.{_≡_, _∙_}
 use native.Mathlib.Omega.{arith}
 use lib.ListN.{length}
+use Rattle.sheet.specs.inner.Strips.{stripLimit}
 use Rattle.turbulence.specs.inner.Columns.{ColumnsOf}
 use Rattle.turbulence.proofs.Columns.{columns-fit, no-columns, columns-more}
 use Rattle.turbulence.proofs.draw.fill_columns.Statement.{statement}
 use Rattle.turbulence.proofs.draw.fill_columns.Tie as tie
 
 abbrev Inv-loop : tie.InvT-loop
-Inv-loop t selector width lower₀ upper₀ across₀ octaves start₀ x₀ lower upper across start x =
-    ColumnsOf t selector x lower upper across
-    × (start ≡ x * t .«num_octaves»)
-    × (x ≤ width)
-    × (length lower ≡ 16384)
-    × (length upper ≡ 16384)
-    × (length across ≡ 16384)
+Inv-loop t selector first count lower₀ upper₀ across₀ octaves start₀ i₀ lower upper across start i =
+    ColumnsOf t selector first i lower upper across
+    × (start ≡ i * t .«num_octaves»)
+    × (i ≤ count)
+    × (length lower ≡ 8 * stripLimit)
+    × (length upper ≡ 8 * stripLimit)
+    × (length across ≡ 8 * stripLimit)
 
 abbrev μ-loop : tie.MeasureT-loop
-μ-loop t selector width lower₀ upper₀ across₀ octaves start₀ x₀ lower upper across start x = width - x
+μ-loop t selector first count lower₀ upper₀ across₀ octaves start₀ i₀ lower upper across start i = count - i
 
 cast-octaves : tie.Need-cast-octaves Inv-loop μ-loop
 cast-octaves c = search needs
 
 loop-holds : tie.Need-loop-holds Inv-loop μ-loop
 loop-holds c =
+    let args = c .before .before .before .before .args in
     let lengths = c .before .before .before .before .pre .1 in
-    (no-columns (c .before .before .before .before .args .t) _ _ _ _, omega arith, omega arith, lengths .0, lengths .1, lengths .2)
+    (no-columns (args .t) _ (args .first) _ _ _, omega arith, omega arith, lengths .0, lengths .1, lengths .2)
+
+add-point-on : tie.Need-add-point-on Inv-loop μ-loop
+add-point-on c = search needs
 
 point-on-requires : tie.Need-point-on-requires Inv-loop μ-loop
 point-on-requires c κs = search needs
 
 -- there is room for one more column
-column-fits : (c : tie.In-loop Inv-loop μ-loop) → c .before .loop .start + c .before .before .before .before .before .before .args .t .«num_octaves» ≤ 16384
+column-fits : (c : tie.In-loop Inv-loop μ-loop) → c .before .loop .start + c .before .before .before .before .before .before .args .t .«num_octaves» ≤ 8 * stripLimit
 column-fits c =
     let the-start = c .before .before .before .before .before .before in
     let args = the-start .args in
     let the-loop = c .before .loop in
     let at = the-loop .inv .1 in
-    let fit = columns-fit (the-loop .x) (args .width) (args .t .«num_octaves») (c .loop-test .taken) (the-start .pre .0 .1) (the-start .pre .0 .0) in
+    let below = c .loop-test .taken in
+    let few = the-start .pre .0 .2 in
+    let fit = columns-fit (the-loop .i) (args .t .«num_octaves») (omega arith) (the-start .pre .0 .0) in
     omega arith
 
 column-at-requires : tie.Need-column-at-requires Inv-loop μ-loop
@@ -55,8 +62,8 @@ add-start c =
     let fit = column-fits turn in
     search needs
 
-add-x : tie.Need-add-x Inv-loop μ-loop
-add-x c = search needs
+add-i : tie.Need-add-i Inv-loop μ-loop
+add-i c = search needs
 
 loop-less : tie.Need-loop-less Inv-loop μ-loop
 loop-less c = search needs
@@ -69,7 +76,7 @@ loop-again c =
     let the-column-at = c .before .before .before .before .before .before .column-at in
     let inv = the-loop .inv in
     let told = the-column-at .ensures in (
-      columns-more (args .t) _ (the-loop .x) (the-loop .start) _ (inv .1) (the-point-on .ensures) (inv .0) (told .0) (told .1 .0) (told .1 .1),
+      columns-more (args .t) _ (args .first) (the-loop .i) (the-loop .start) _ (inv .1) (the-point-on .ensures) (inv .0) (told .0) (told .1 .0) (told .1 .1),
       omega arith,
       omega arith,
       told .0 .same ∙ inv .3,
@@ -90,7 +97,7 @@ returns : tie.Need-returns Inv-loop μ-loop
 returns c =
     let args = c .before .before .before .before .before .before .args in
     let the-loop = c .before .loop in
-    let end : the-loop .x ≡ args .width = search needs in
+    let end : the-loop .i ≡ args .count = search needs in
     rw end at (the-loop .inv .0)
 
 pub fill-columns-spec : {M : Type 1} → statement M
@@ -101,10 +108,11 @@ fill-columns-spec =
     μ-loop
     cast-octaves
     loop-holds
+    add-point-on
     point-on-requires
     column-at-requires
     add-start
-    add-x
+    add-i
     loop-less
     loop-again
     same-length

@@ -26,14 +26,14 @@ of-requires c κs = search needs
 returns : tie.Need-returns
 returns c =
     let args = c .before .before .before .before .before .before .args in
-    λ y row.
+    λ x y column row.
     let the-turbulence = c .before .before .before .before .before .turbulence in
-    let sum = the-turbulence .ensures y row in
+    let sum = the-turbulence .ensures x y column row in
     channels-as (c .of .ensures)
-    (byte-is (args .t) _ _ _ 0 (args .x) y (sum .red) (c .before .before .before .before .byte-of .ensures))
-    (byte-is (args .t) _ _ _ 1 (args .x) y (sum .green) (c .before .before .before .byte-of2 .ensures))
-    (byte-is (args .t) _ _ _ 2 (args .x) y (sum .blue) (c .before .before .byte-of3 .ensures))
-    (byte-is (args .t) _ _ _ 3 (args .x) y (sum .alpha) (c .before .byte-of4 .ensures))
+    (byte-is (args .t) _ _ _ 0 x y (sum .red) (c .before .before .before .before .byte-of .ensures))
+    (byte-is (args .t) _ _ _ 1 x y (sum .green) (c .before .before .before .byte-of2 .ensures))
+    (byte-is (args .t) _ _ _ 2 x y (sum .blue) (c .before .before .byte-of3 .ensures))
+    (byte-is (args .t) _ _ _ 3 x y (sum .alpha) (c .before .byte-of4 .ensures))
 
 pub pixel-spec : {M : Type 1} → statement M
 pixel-spec =

@@ -6,20 +6,21 @@ use native.Mathlib.Omega.{arith}
 use lib.ListN.{getD}
 use lib.Ieee.{nan}
 use Rattle.floats.specs.Operators.{_⊞_}
+use Rattle.sheet.specs.inner.Strips.{Changed}
+use Rattle.sheet.proofs.Strips.{changed-none, changed-more}
 use Rattle.turbulence.specs.Constants.{d4096}
 use Rattle.turbulence.specs.Noise.{cell, nextCell, fraction}
 use Rattle.turbulence.specs.inner.Rows.{doubled, fractionIn}
-use Rattle.turbulence.specs.inner.Columns.{lowerIn, upperIn, Extended}
+use Rattle.turbulence.specs.inner.Columns.{lowerIn, upperIn}
 use Rattle.turbulence.proofs.Octaves.{doubled-once}
-use Rattle.turbulence.proofs.Columns.{extended-none, extended-more}
 use Rattle.turbulence.proofs.noise.column_at.Statement.{statement}
 use Rattle.turbulence.proofs.noise.column_at.Tie as tie
 
 abbrev Inv-loop : tie.InvT-loop
 Inv-loop octaves selector x0 start lower₀ upper₀ across₀ x₀ k₀ lower upper across x k =
-    Extended 0 (lowerIn selector x0) start k lower₀ lower
-    × Extended 0 (upperIn selector x0) start k upper₀ upper
-    × Extended nan (fractionIn x0) start k across₀ across
+    Changed 0 (lowerIn selector x0) start k lower₀ lower
+    × Changed 0 (upperIn selector x0) start k upper₀ upper
+    × Changed nan (fractionIn x0) start k across₀ across
     × (x ≡ doubled k x0)
     × (k ≤ octaves)
 
@@ -28,7 +29,7 @@ abbrev μ-loop : tie.MeasureT-loop
 
 loop-holds : tie.Need-loop-holds Inv-loop μ-loop
 unfolding doubled
-loop-holds c = (extended-none, extended-none, extended-none, refl, search needs)
+loop-holds c = (changed-none _ _ _ _, changed-none _ _ _ _, changed-none _ _ _ _, refl, search needs)
 
 place-of-requires : tie.Need-place-of-requires Inv-loop μ-loop
 place-of-requires c κs = search needs
@@ -80,9 +81,9 @@ loop-again c =
     let place = c .before .before .place-of .ensures in
     let bx = place .cell-is ∙ ap cell there in
     let entry : ℕ → ℕ = λ i. getD (args .selector .now) i 0 in (
-      extended-more _ (inv .0) (omega arith) (ap entry bx),
-      extended-more _ (inv .1) (omega arith) (ap entry (ap nextCell bx)),
-      extended-more _ (inv .2) (omega arith) (place .fraction-is ∙ ap fraction there),
+      changed-more _ _ _ _ _ (inv .0) (omega arith) (ap entry bx),
+      changed-more _ _ _ _ _ (inv .1) (omega arith) (ap entry (ap nextCell bx)),
+      changed-more _ _ _ _ _ (inv .2) (omega arith) (place .fraction-is ∙ ap fraction there),
       doubled-once _ _ _ (inv .3),
       search needs,
     )

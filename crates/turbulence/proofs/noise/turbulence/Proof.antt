@@ -2,31 +2,31 @@
 use borrow.Author.Needs.{needs}
 use Prim.Native.Nat.{ℕ, _+_, _*_, _-_, _≤_}
 use mathlib.Core.Path.{_≡_, refl}
-use native.Mathlib.Omega.{arith}
 use lib.Ieee.{ofBits}
-use Rattle.sheet.specs.Size.{sideLimit}
+use Rattle.sheet.specs.inner.Strips.{stripLimit}
 use Rattle.turbulence.specs.inner.Rows.{columnPoint, rowPoint, RowOf}
+use Rattle.turbulence.specs.inner.Columns.{ColumnOf}
 use Rattle.turbulence.proofs.Columns.{columns-fit}
 use Rattle.turbulence.proofs.Octaves.{halved, halved-once, LeadsAt, row-start, row-more, row-done}
 use Rattle.turbulence.proofs.noise.turbulence.Statement.{statement}
 use Rattle.turbulence.proofs.noise.turbulence.Tie as tie
 
 abbrev Inv-loop : tie.InvT-loop
-Inv-loop t selector gx gy lower upper across cells fractions curves x octaves start sum₀ inverse₀ k₀ sum inverse k =
-    ((y : ℕ) → RowOf t y cells fractions curves → LeadsAt (t .«fractal_noise») (t .«num_octaves») selector gx gy (columnPoint t x) (rowPoint t y) sum k)
+Inv-loop t selector gx gy lower upper across cells fractions curves i octaves start sum₀ inverse₀ k₀ sum inverse k =
+    ((x y : ℕ) → ColumnOf t selector x i lower upper across → RowOf t y cells fractions curves → LeadsAt (t .«fractal_noise») (t .«num_octaves») selector gx gy (columnPoint t x) (rowPoint t y) sum k)
     × (inverse ≡ halved k)
     × (k ≤ octaves)
-    × (x * t .«num_octaves» + t .«num_octaves» ≤ 16384)
+    × (i * t .«num_octaves» + t .«num_octaves» ≤ 8 * stripLimit)
 
 abbrev μ-loop : tie.MeasureT-loop
-μ-loop t selector gx gy lower upper across cells fractions curves x octaves start sum₀ inverse₀ k₀ sum inverse k = octaves - k
+μ-loop t selector gx gy lower upper across cells fractions curves i octaves start sum₀ inverse₀ k₀ sum inverse k = octaves - k
 
 cast-octaves : tie.Need-cast-octaves Inv-loop μ-loop
 cast-octaves c = search needs
 
 -- the column lies within the three lists
-column-fits : (c : tie.Start Inv-loop μ-loop) → c .args .x * c .args .t .«num_octaves» + c .args .t .«num_octaves» ≤ 16384
-column-fits c = columns-fit (c .args .x) sideLimit (c .args .t .«num_octaves») (c .pre .1) (omega arith) (c .pre .0)
+column-fits : (c : tie.Start Inv-loop μ-loop) → c .args .i * c .args .t .«num_octaves» + c .args .t .«num_octaves» ≤ 8 * stripLimit
+column-fits c = columns-fit (c .args .i) (c .args .t .«num_octaves») (c .pre .1) (c .pre .0)
 
 mul-start : tie.Need-mul-start Inv-loop μ-loop
 mul-start c = let fit = column-fits (c .before) in search needs
@@ -36,7 +36,7 @@ no-sum-requires c κs = search needs
 
 loop-holds : tie.Need-loop-holds Inv-loop μ-loop
 unfolding halved
-loop-holds c = ((λ y r. rw (c .no-sum .ensures) (row-start _ _ _ _ _ _ _)), refl, search needs, column-fits (c .before .before))
+loop-holds c = ((λ x y a r. rw (c .no-sum .ensures) (row-start _ _ _ _ _ _ _)), refl, search needs, column-fits (c .before .before))
 
 add-at : tie.Need-add-at Inv-loop μ-loop
 add-at c = search needs
@@ -90,10 +90,10 @@ loop-again c =
     let the-point = c .before .point-of in
     let inv = the-loop .inv in
     let below = the-test .taken in
-    ((λ y r. row-more _ _ _ _ _ _ _ _ _ _ (args .x * args .t .«num_octaves») _ _ _ _ _ _ (the-loop .k) (the-point .result) (the-start .pre .0) below (the-point .ensures .0) (the-start .pre .2) (inv .1) (c .with-octave .ensures) r (inv .0 y r)), halved-once _ _ (inv .1), search needs, inv .3)
+    ((λ x y a r. row-more _ _ _ _ _ _ _ _ _ _ (args .i * args .t .«num_octaves») _ _ _ _ _ _ (the-loop .k) (the-point .result) (the-start .pre .0) below (the-point .ensures .0) a (inv .1) (c .with-octave .ensures) r (inv .0 x y a r)), halved-once _ _ (inv .1), search needs, inv .3)
 
 returns : tie.Need-returns Inv-loop μ-loop
-returns c = λ y r. row-done _ _ _ _ _ _ _ _ (c .before .loop .k) (c .loop-test .left) (c .before .loop .inv .0 y r)
+returns c = λ x y a r. row-done _ _ _ _ _ _ _ _ (c .before .loop .k) (c .loop-test .left) (c .before .loop .inv .0 x y a r)
 
 pub turbulence-spec : {M : Type 1} → statement M
 turbulence-spec =
