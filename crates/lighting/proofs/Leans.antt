@@ -2,18 +2,18 @@
 use Prim.Native.Nat.{ℕ, suc, _+_, _-_, _*_, _≤_, _<_}
 use mathlib.Core.Path.{_≡_, ap, _∙_}
 use mathlib.Core.List.{List}
-use native.Mathlib.Nat.{suc-mul, mul-le-mul-right, not-suc-le-zero}
+use native.Mathlib.Nat.{suc-mul, mul-le-mul-right}
 use native.Mathlib.Omega.{arith}
 use native.Mathlib.Decide.{decLt, ℕ-discrete}
-use borrow.Author.Count.{below-more}
 use borrow.Author.Tests.{eq-eqb, ne-eqb, lt-ltb, le-ltb}
-use lib.ListN.{length, getD, set}
-use lib.Seq.{getD-set-same, getD-set-other}
+use lib.ListN.{length, getD}
 use lib.IntN.{subℕ}
 use Rattle.sheet.specs.Pixel.{byteAt}
 use Rattle.sheet.proofs.Places.{rows, place-inside}
+use Rattle.lighting.specs.declared.surface.Strip.{Strip}
 use Rattle.lighting.specs.Surface.{alphaAt, before, after, weighted, behind, ahead, lean}
-use Rattle.lighting.specs.inner.Lines.{inLine, SmallFrom}
+use Rattle.lighting.specs.inner.Lines.{inLine, Placed}
+use Rattle.lighting.specs.inner.Rows.{startOf}
 
 -- ---- where a pixel's alpha lies, by its row and by its column
 pub by-row : (w x y : ℕ) → 4 * x + 4 * w * y + 3 ≡ byteAt w x y 3
@@ -69,11 +69,14 @@ column-sum w h s x y q = weighted-ext h (inLine s (4 * w) (4 * x)) (alphaAt w s 
 pub alpha-in : (w : ℕ) (s : List ℕ) (x v v′ : ℕ) → v ≡ v′ → getD s (4 * w * v + 4 * x + 3) 0 ≡ alphaAt w s x v′
 alpha-in w s x v v′ e = ap (λ (k : ℕ). getD s k 0) (by-column w x v) ∙ ap (alphaAt w s x) e
 
--- ---- columns with one more at each edge
-pub small-none : (at : ℕ) (l : List ℕ) → SmallFrom at 0 l
-small-none at l i h = absurd (not-suc-le-zero h)
+-- ---- a row of a strip
+module _ (strip : Strip) (y : ℕ) (start : ℕ) (e : start ≡ startOf strip y) where
+  -- where column i's alpha lies
+  along : (i : ℕ) → start + 4 * i + 3 ≡ byteAt (strip .width) (strip .left + i) y 3
+  along i = omega arith
 
-pub small-more : (at n : ℕ) (l : List ℕ) (v : ℕ) → SmallFrom at n l → at + n < length l → v ≤ 1020 → SmallFrom at (n + 1) (set l (at + n) v)
-small-more at n l v s h b = below-more (λ i. getD (set l (at + n) v) (at + i) 0 ≤ 1020) n
-    (λ i p. rw (getD-set-other l (at + n) (at + i) v 0 (omega arith)) (s i p))
-    (rw (getD-set-same l (at + n) v 0 h) b)
+  pub alpha-along : (s : List ℕ) (i : ℕ) → getD s (start + 4 * i + 3) 0 ≡ alphaAt (strip .width) s (strip .left + i) y
+  alpha-along s i = ap (λ (k : ℕ). getD s k 0) (along i)
+
+  pub along-inside : Placed strip → y < strip .height → (i : ℕ) → i < strip .count → start + 4 * i + 3 < 4 * strip .width * strip .height
+  along-inside p q i l = let z = p .inside in rw (along i) (place-inside (strip .width) (strip .height) (strip .left + i) y 3 (omega arith) q (omega arith))

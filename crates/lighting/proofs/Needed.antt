@@ -1,19 +1,23 @@
 -- Every alpha that a byte of a lighting reads is needed, so its reach is the least: of a clear sheet white light from above makes 255, and an
 -- opaque pixel beside the byte's own makes the surface lean, and less light of it. The pixel's own alpha hides a point just above it. Diffuse
 -- light is opaque everywhere, so that its own alpha needs nothing: document 01 counts what it reads all the same.
-use Prim.Native.Nat.{ℕ, zero, suc, _+_, _*_, _%_, _≤_, _<_, max}
+use Prim.Native.Nat.{ℕ, zero, suc, _+_, _-_, _*_, _%_, _^_, _≤_, _<_, max}
 use mathlib.Core.Path.{_≡_, refl, sym, ap, _∙_}
-use mathlib.Core.Bool.{Bool, true, false, cond, _&&_}
+use mathlib.Core.Bool.{Bool, true, false, cond, true≢false}
 use mathlib.Core.List.{List}
 use mathlib.Core.Logic.{_⊎_, inl, inr}
 use native.Mathlib.Omega.{arith}
 use native.Mathlib.Decide.{ℕ-discrete}
-use borrow.Author.Tests.{ne-eqb, le-ltb}
+use borrow.Author.Tests.{ne-eqb, lt-ltb, le-ltb}
 use lib.ListN.{getD, replicate}
 use lib.Seq.{getD-set-other}
-use lib.Dec.{T, eqb, eqb→eq, ltb, ltb→lt}
-use lib.IntN.{pos, negsuc}
-use lib.Ieee.{Float, nan, inf, fin, binary32, ofBits, ofInt, toBits, toUnsigned, add, sub, sum, neg, mul, div, round, units, odd, size, span, climb, lt, le, eq}
+use lib.Dec.{T, eqb, eqb→eq, ltb, ltb→lt, lit<}
+use lib.IntN.{pos}
+use lib.Ieee.{Float, nan, inf, fin, binary32, up, down, ofBits, ofInt, toBits, toUnsigned, add, sub, sum, neg, mul, div, round, units, odd, size, span, climb, lt, le, eq}
+use lib.Ieee.Back.{round-whole}
+use lib.Ieee.Exact.{HasValue}
+use lib.Ieee.Fits.{down-pos}
+use lib.Ieee.Order.{le-of-values}
 use lib.Ieee.Scale.{finite}
 use lib.Count.{trailingZeros}
 use Rattle.floats.specs.Channel.{normalized}
@@ -23,6 +27,8 @@ use Rattle.floats.specs.Order.{nearZero}
 use Rattle.floats.specs.Root.{rootAt, root, roundRoot, sqrtOf}
 use Rattle.floats.specs.Unit.{unitTriple}
 use Rattle.floats.proofs.EveryByte.{every, below}
+use Rattle.floats.proofs.Fractions.{sub-at}
+use Rattle.floats.proofs.Tests.{is-true}
 use Rattle.sheet.specs.declared.Answer.{Answer}
 use Rattle.sheet.specs.declared.Answer.the-variants.{Done}
 use Rattle.sheet.specs.Pixel.{column, row, byteAt}
@@ -291,49 +297,38 @@ module _ (reflection : Reflection) (w h : ℕ) (p : 3 ≤ w) (q : 3 ≤ h) (k : 
 abbrev asFloat : ℕ → Float
 asFloat n = ofInt binary32 (pos n)
 
--- x is +0
-nought : Float → Bool
-nought nan = false
-nought (inf s) = false
-nought (fin true m e) = false
-nought (fin false (suc m) e) = false
-nought (fin false zero (negsuc k)) = false
-nought (fin false zero (pos (suc k))) = false
-nought (fin false zero (pos zero)) = true
+-- what a whole number's value tells of it
+module _ (x : Float) (n : ℕ) (v : HasValue x false n 1) where
+  less-itself : x ⊖ x ≡ c0
+  unfolding ofBits round units odd size span climb trailingZeros
+  less-itself = sub-at binary32 x x n 1 n 1 (lit< tt) (lit< tt) v v (omega arith) ∙ ap (λ (m : ℕ). round binary32 false m 1) (let z : n * 1 - n * 1 ≡ 0 = omega arith in z)
 
-nought-is : (x : Float) → T (nought x) → x ≡ c0
-unfolding nought ofBits
-nought-is nan t = absurd t
-nought-is (inf s) t = absurd t
-nought-is (fin true m e) t = absurd t
-nought-is (fin false (suc m) e) t = absurd t
-nought-is (fin false zero (negsuc k)) t = absurd t
-nought-is (fin false zero (pos (suc k))) t = absurd t
-nought-is (fin false zero (pos zero)) t = refl
+  below-top : n ≤ 65536 → le x c65536 ≡ true
+  unfolding ofBits
+  below-top l = sym (is-true (le x c65536) (le-of-values x c65536 n 1 65536 1 (lit< tt) (lit< tt) v (refl, refl) (omega arith)))
 
--- a column or a row as a float less itself is +0, and it is in range
-sound : ℕ → Bool
-sound n = nought (asFloat n ⊖ asFloat n) && (finite (asFloat n) && (le m65536 (asFloat n) && le (asFloat n) c65536))
+value-finite : (x : Float) (n : ℕ) → HasValue x false n 1 → finite x ≡ true
+value-finite nan n v = absurd v
+value-finite (inf s) n v = absurd v
+value-finite (fin s m e) n v = refl
 
-all-sound : T (every sound sideLimit)
-unfolding every sound nought ofInt ofBits add sub sum neg round units odd size span climb trailingZeros lt le eq
-all-sound = tt
+above-bottom : (x : Float) (n : ℕ) → HasValue x false n 1 → le m65536 x ≡ true
+unfolding ofBits le lt
+above-bottom nan n v = absurd v
+above-bottom (inf s) n v = absurd v
+above-bottom (fin true m e) n v = absurd (true≢false (v .0))
+above-bottom (fin false m e) n v = let p = down-pos e in rw (lt-ltb 0 (65536 * down e + m * up e * 1) (omega arith))
 
--- each of four tests that pass together
-all-four : (a b c d : Bool) → T (a && (b && (c && d))) → T a × (b ≡ true) × (c ≡ true) × (d ≡ true)
-all-four true true true true t = (tt, refl, refl, refl)
-all-four true true true false t = absurd t
-all-four true true false d t = absurd t
-all-four true false c d t = absurd t
-all-four false b c d t = absurd t
+-- a column or a row as a float
+place-value : (n : ℕ) → n < sideLimit → HasValue (asFloat n) false n 1
+unfolding ofInt
+place-value n l = round-whole binary32 false n (let z : n ≤ 2 ^ 24 = omega arith in z)
 
-module _ (n : ℕ) (l : n < sideLimit) where
-  sound-at : T (nought (asFloat n ⊖ asFloat n)) × (finite (asFloat n) ≡ true) × (le m65536 (asFloat n) ≡ true) × (le (asFloat n) c65536 ≡ true)
-  unfolding sound
-  sound-at = all-four (nought (asFloat n ⊖ asFloat n)) (finite (asFloat n)) (le m65536 (asFloat n)) (le (asFloat n) c65536) (below sound sideLimit all-sound n l)
+in-range : (n : ℕ) → n < sideLimit → (finite (asFloat n) ≡ true) × (le m65536 (asFloat n) ≡ true) × (le (asFloat n) c65536 ≡ true)
+in-range n l = let v = place-value n l in (value-finite (asFloat n) n v, above-bottom (asFloat n) n v, below-top (asFloat n) n v (omega arith))
 
-  less-itself : asFloat n ⊖ asFloat n ≡ c0
-  less-itself = nought-is (asFloat n ⊖ asFloat n) (sound-at .0)
+place-less : (n : ℕ) → n < sideLimit → asFloat n ⊖ asFloat n ≡ c0
+place-less n l = less-itself (asFloat n) n (place-value n l)
 
 clear-below-it : Vectors.unitOf (vector c0 c0 (c1 ⊖ normalized 0 ⊗ c256)) ≡ vector c0 c0 c1
 unfolding normalized Vectors.unitOf Vectors.dot Vectors.length sqrtOf roundRoot root rootAt nearZero ofBits toBits ofInt add sub mul div sum round units odd size span climb trailingZeros lt le eq neg
@@ -352,17 +347,17 @@ the-rest Specular = refl
 module _ (x y : ℕ) (p : x < sideLimit) (q : y < sideLimit) where
   point-accepted : (reflection : Reflection) → answered reflection (Point (asFloat x) (asFloat y) c1) ≡ Done
   unfolding diffuseAnswer specularAnswer finiteNumbers numbersInRange ofBits le
-  point-accepted Diffuse = let a = sound-at x p in let b = sound-at y q in rw (a .1, b .1, a .2, a .3, b .2, b .3) (the-rest Diffuse)
-  point-accepted Specular = let a = sound-at x p in let b = sound-at y q in rw (a .1, b .1, a .2, a .3, b .2, b .3) (the-rest Specular)
+  point-accepted Diffuse = let a = in-range x p in let b = in-range y q in rw (a .0, b .0, a .1, a .2, b .1, b .2) (the-rest Diffuse)
+  point-accepted Specular = let a = in-range x p in let b = in-range y q in rw (a .0, b .0, a .1, a .2, b .1, b .2) (the-rest Specular)
 
   -- from a clear pixel the point is straight above, and from an opaque one straight below
   from-clear : toPoint (asFloat x) (asFloat y) c1 c256 0 x y ≡ vector c0 c0 c1
   unfolding toPoint
-  from-clear = rw (less-itself x p, less-itself y q) clear-below-it
+  from-clear = rw (place-less x p, place-less y q) clear-below-it
 
   from-opaque : (reflection : Reflection) → rayOf reflection (toPoint (asFloat x) (asFloat y) c1 c256 255 x y) ≡ underneath reflection
   unfolding toPoint
-  from-opaque reflection = rw (less-itself x p, less-itself y q) (opaque-above-it reflection)
+  from-opaque reflection = rw (place-less x p, place-less y q) (opaque-above-it reflection)
 
 module _ (reflection : Reflection) (w h : ℕ) (p : 3 ≤ w) (q : 3 ≤ h) (a : w ≤ sideLimit) (b : h ≤ sideLimit) (k : ℕ) (n : Shown reflection (k % 4)) (l : k < 4 * w * h) where
   own-needed : NeededBy reflection w h k (byteAt w (column w k) (row w k) 3)

@@ -1,46 +1,42 @@
-// Every pixel of a sheet, row by row.
+// Every pixel of a sheet: strip by strip, and each strip row by row.
 use crate::light::LightSource;
 use crate::pixel::Lighting;
 use crate::rows;
+use crate::surface::Strip;
 use crate::vector::Vector3;
 use sheet::Answer;
+use sheet::STRIP;
 ghost use mathlib.Core.Path.{_≡_};
-ghost use Prim.Native.Nat.{_*_};
+ghost use Prim.Native.Nat.{_*_, _≤_};
 ghost use lib.ListN.{length};
 ghost use Rattle.sheet.specs.Size.{Sized};
 ghost use Rattle.sheet.specs.Contract.{was, became, Filtered};
+ghost use Rattle.sheet.specs.inner.Strips.{stripLimit};
 ghost use Rattle.sheet.specs.Tabulate.{tabulate};
 ghost use Rattle.lighting.specs.Lighting.{litAt, small, answer, lit};
+ghost use Rattle.lighting.specs.inner.Lines.{Placed};
+ghost use Rattle.lighting.specs.inner.Rows.{StripDone};
 
-// The most columns, and those with one more at each edge.
-const COLUMNS: usize = 2048;
+// A strip's columns, with one more at each side.
+const WIDENED: usize = STRIP + 2;
 
-const WIDENED: usize = 2050;
-
-// Every row of `dest` becomes that of the result, under a distant light.
-fn distant_rows(
-    lighting: Lighting,
-    direction: Vector3,
-    width: usize,
-    height: usize,
-    src: &[u8],
-    dest: &mut [u8],
-)
+// Every row of a strip of `dest` becomes that of the result, under a distant light.
+fn distant_rows(lighting: Lighting, direction: Vector3, strip: Strip, src: &[u8], dest: &mut [u8])
     requires { ⌜ lighting .light ≡ LightSource.Distant (direction .x) (direction .y) (direction .z) ⌝ }
-    requires { ⌜ Sized width height × (length (now src) ≡ 4 * width * height) × (length (now dest) ≡ 4 * width * height) ⌝ }
-    ensures { λ _. ⌜ became dest ≡ tabulate (4 * width * height) (litAt lighting width height (was src)) ⌝ }
+    requires { ⌜ Placed strip × (strip .count ≤ stripLimit) × (length (now src) ≡ 4 * strip .width * strip .height) × (length (now dest) ≡ 4 * strip .width * strip .height) ⌝ }
+    requires { ⌜ StripDone lighting strip (now src) 0 (now dest) ⌝ }
+    ensures { λ _. ⌜ StripDone lighting strip (was src) (strip .height) (became dest) ⌝ }
 {
     let mut sums = [0u16; WIDENED];
     let mut above = [0u8; WIDENED];
     let mut below = [0u8; WIDENED];
-    let mut lengths = [0.0f32; COLUMNS];
+    let mut lengths = [0.0f32; STRIP];
     let mut y = 0;
-    while y < height {
+    while y < strip.height {
         rows::distant_row(
             lighting,
             direction,
-            width,
-            height,
+            strip,
             src,
             y,
             &mut sums,
@@ -53,32 +49,25 @@ fn distant_rows(
     }
 }
 
-// Every row of `dest` becomes that of the result, under a point.
-fn point_rows(
-    lighting: Lighting,
-    point: Vector3,
-    width: usize,
-    height: usize,
-    src: &[u8],
-    dest: &mut [u8],
-)
+// Every row of a strip of `dest` becomes that of the result, under a point.
+fn point_rows(lighting: Lighting, point: Vector3, strip: Strip, src: &[u8], dest: &mut [u8])
     requires { ⌜ lighting .light ≡ LightSource.Point (point .x) (point .y) (point .z) ⌝ }
-    requires { ⌜ Sized width height × (length (now src) ≡ 4 * width * height) × (length (now dest) ≡ 4 * width * height) ⌝ }
-    ensures { λ _. ⌜ became dest ≡ tabulate (4 * width * height) (litAt lighting width height (was src)) ⌝ }
+    requires { ⌜ Placed strip × (strip .count ≤ stripLimit) × (length (now src) ≡ 4 * strip .width * strip .height) × (length (now dest) ≡ 4 * strip .width * strip .height) ⌝ }
+    requires { ⌜ StripDone lighting strip (now src) 0 (now dest) ⌝ }
+    ensures { λ _. ⌜ StripDone lighting strip (was src) (strip .height) (became dest) ⌝ }
 {
     let mut sums = [0u16; WIDENED];
     let mut above = [0u8; WIDENED];
     let mut below = [0u8; WIDENED];
-    let mut lengths = [0.0f32; COLUMNS];
-    let mut spans = [0.0f32; COLUMNS];
-    let mut sizes = [0.0f32; COLUMNS];
+    let mut lengths = [0.0f32; STRIP];
+    let mut spans = [0.0f32; STRIP];
+    let mut sizes = [0.0f32; STRIP];
     let mut y = 0;
-    while y < height {
+    while y < strip.height {
         rows::point_row(
             lighting,
             point,
-            width,
-            height,
+            strip,
             src,
             y,
             &mut sums,
@@ -93,6 +82,25 @@ fn point_rows(
     }
 }
 
+// Lights every row of a strip.
+fn light_rows(lighting: Lighting, strip: Strip, src: &[u8], dest: &mut [u8])
+    requires { ⌜ Placed strip × (strip .count ≤ stripLimit) × (length (now src) ≡ 4 * strip .width * strip .height) × (length (now dest) ≡ 4 * strip .width * strip .height) ⌝ }
+    requires { ⌜ StripDone lighting strip (now src) 0 (now dest) ⌝ }
+    ensures { λ _. ⌜ StripDone lighting strip (was src) (strip .height) (became dest) ⌝ }
+{
+    let light = lighting.light;
+    match light {
+        LightSource::Distant(x, y, z) => {
+            let direction = Vector3 { x, y, z };
+            distant_rows(lighting, direction, strip, src, dest);
+        }
+        LightSource::Point(x, y, z) => {
+            let point = Vector3 { x, y, z };
+            point_rows(lighting, point, strip, src, dest);
+        }
+    }
+}
+
 // Lights every pixel.
 fn light_all(lighting: Lighting, width: usize, height: usize, src: &[u8], dest: &mut [u8])
     requires { ⌜ Sized width height ⌝ }
@@ -100,16 +108,17 @@ fn light_all(lighting: Lighting, width: usize, height: usize, src: &[u8], dest: 
     requires { ⌜ length (now dest) ≡ 4 * width * height ⌝ }
     ensures { λ _. ⌜ now (dest .exit) ≡ tabulate (4 * width * height) (litAt lighting width height (now (src .entry))) ⌝ }
 {
-    let light = lighting.light;
-    match light {
-        LightSource::Distant(x, y, z) => {
-            let direction = Vector3 { x, y, z };
-            distant_rows(lighting, direction, width, height, src, dest);
-        }
-        LightSource::Point(x, y, z) => {
-            let point = Vector3 { x, y, z };
-            point_rows(lighting, point, width, height, src, dest);
-        }
+    let mut left = 0;
+    while left < width {
+        let count = sheet::strip_from(width, left);
+        let strip = Strip {
+            width,
+            height,
+            left,
+            count,
+        };
+        light_rows(lighting, strip, src, dest);
+        left += count;
     }
 }
 

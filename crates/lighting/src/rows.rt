@@ -1,53 +1,57 @@
-// One row of a sheet, in passes over its columns. Each pass fills the first places of lent work space.
+// One row of a strip, in passes over its columns. Each pass fills the first places of lent work space, one for each column.
 use crate::light;
 use crate::light::LightSource;
 use crate::light::Reflection;
 use crate::pixel;
 use crate::pixel::Lighting;
 use crate::surface;
+use crate::surface::Strip;
 use crate::vector::Vector3;
 ghost use mathlib.Core.Path.{_≡_};
 ghost use Prim.Native.Nat.{ℕ, _*_, _+_, _≤_, _<_};
 ghost use lib.ListN.{length, getD};
 ghost use lib.Ieee.{nan};
-ghost use Rattle.sheet.specs.Size.{Sized, sideLimit};
 ghost use Rattle.sheet.specs.Contract.{was, became};
 ghost use Rattle.lighting.specs.Vectors as Vectors;
 ghost use Rattle.lighting.specs.Light.{normalVector, rayOf};
-ghost use Rattle.lighting.specs.Lighting.{factorAt};
-ghost use Rattle.lighting.specs.inner.Lines.{Columns, normalIn};
+ghost use Rattle.lighting.specs.inner.Lines.{Placed, Columns, normalIn};
 ghost use Rattle.lighting.specs.inner.Rays.{square};
-ghost use Rattle.lighting.specs.inner.Rows.{Filled, Sloped, LitRow, factorIn, fromRow, pointVector, pointRay, pointFactor, toPointIn};
+ghost use Rattle.lighting.specs.inner.Rows.{Filled, Sloped, startOf, LitRow, RowDone, factorIn, fromRow, pointVector, pointRay, pointFactor, toPointIn};
+
+// Where a strip's bytes of row y begin.
+fn start_of(strip: Strip, y: usize) -> usize
+    requires { ⌜ Placed strip × (y < strip .height) ⌝ }
+    ensures { λ r. ⌜ r ≡ startOf strip y ⌝ }
+{
+    4 * (y * strip.width + strip.left)
+}
 
 // The normal vectors of row y: their products with themselves.
 fn squares(
     scale: f32,
-    w: usize,
-    h: usize,
+    strip: Strip,
     sums: &[u16],
     above: &[u8],
     below: &[u8],
     y: usize,
     lengths: &mut [f32],
 )
-    requires { ⌜ Columns w (now sums) (now above) (now below) × (y < h) × (w ≤ sideLimit) × (h ≤ sideLimit) ⌝ }
-    requires { ⌜ w ≤ length (now lengths) ⌝ }
-    ensures { λ _. ⌜ Filled nan (λ x. square (normalVector scale (normalIn w h (was sums) (was above) (was below) x y))) w (was lengths) (became lengths) ⌝ }
+    requires { ⌜ Placed strip × Columns (strip .count) (now sums) (now above) (now below) × (y < strip .height) × (strip .count ≤ length (now lengths)) ⌝ }
+    ensures { λ _. ⌜ Filled nan (λ i. square (normalVector scale (normalIn strip (was sums) (was above) (was below) i y))) (strip .count) (was lengths) (became lengths) ⌝ }
 {
-    let mut x = 0;
-    while x < w {
-        let normal = surface::normal_in(w, h, sums, above, below, x, y);
+    let mut i = 0;
+    while i < strip.count {
+        let normal = surface::normal_in(strip, sums, above, below, i, y);
         let n = pixel::normal_vector(scale, normal);
-        lengths[x] = n.dot(n);
-        x += 1;
+        lengths[i] = n.dot(n);
+        i += 1;
     }
 }
 
 // How the surface leans along row y: its columns, and the lengths of its normal vectors.
 fn slopes(
     scale: f32,
-    w: usize,
-    h: usize,
+    strip: Strip,
     src: &[u8],
     y: usize,
     sums: &mut [u16],
@@ -55,33 +59,27 @@ fn slopes(
     below: &mut [u8],
     lengths: &mut [f32],
 )
-    requires { ⌜ Sized w h × (length (now src) ≡ 4 * w * h) × (y < h) ⌝ }
-    requires { ⌜ (w + 2 ≤ length (now sums)) × (w + 2 ≤ length (now above)) × (w + 2 ≤ length (now below)) × (w ≤ length (now lengths)) ⌝ }
-    ensures { λ _. ⌜ Sloped scale w h (was src) y (became sums) (became above) (became below) (became lengths) ⌝ }
+    requires { ⌜ Placed strip × (length (now src) ≡ 4 * strip .width * strip .height) × (y < strip .height) ⌝ }
+    requires { ⌜ (strip .count + 2 ≤ length (now sums)) × (strip .count + 2 ≤ length (now above)) × (strip .count + 2 ≤ length (now below)) × (strip .count ≤ length (now lengths)) ⌝ }
+    ensures { λ _. ⌜ Sloped scale strip (was src) y (became sums) (became above) (became below) (became lengths) ⌝ }
 {
-    surface::columns(src, w, h, y, sums, above, below);
-    squares(scale, w, h, sums, above, below, y, lengths);
-    floats::roots(lengths, w);
+    surface::columns(src, strip, y, sums, above, below);
+    squares(scale, strip, sums, above, below, y, lengths);
+    floats::roots(lengths, strip.count);
 }
 
 // The vectors from the surface of row y to a point: their products with themselves.
-fn distances(
-    point: Vector3,
-    scale: f32,
-    w: usize,
-    h: usize,
-    src: &[u8],
-    y: usize,
-    spans: &mut [f32],
-)
-    requires { ⌜ Sized w h × (length (now src) ≡ 4 * w * h) × (y < h) × (w ≤ length (now spans)) ⌝ }
-    ensures { λ _. ⌜ Filled nan (λ x. square (fromRow point scale w (was src) y x)) w (was spans) (became spans) ⌝ }
+fn distances(point: Vector3, scale: f32, strip: Strip, src: &[u8], y: usize, spans: &mut [f32])
+    requires { ⌜ Placed strip × (length (now src) ≡ 4 * strip .width * strip .height) × (y < strip .height) × (strip .count ≤ length (now spans)) ⌝ }
+    ensures { λ _. ⌜ Filled nan (λ i. square (fromRow point scale strip (was src) y i)) (strip .count) (was spans) (became spans) ⌝ }
 {
-    let mut x = 0;
-    while x < w {
-        let v = light::to_point(point, scale, src[4 * (y * w + x) + 3], x, y);
-        spans[x] = v.dot(v);
-        x += 1;
+    let start = start_of(strip, y);
+    let mut i = 0;
+    while i < strip.count {
+        let alpha = src[start + 4 * i + 3];
+        let v = light::to_point(point, scale, alpha, strip.left + i, y);
+        spans[i] = v.dot(v);
+        i += 1;
     }
 }
 
@@ -89,22 +87,23 @@ fn distances(
 fn halves(
     point: Vector3,
     scale: f32,
-    w: usize,
-    h: usize,
+    strip: Strip,
     src: &[u8],
     y: usize,
     spans: &[f32],
     sizes: &mut [f32],
 )
-    requires { ⌜ Sized w h × (length (now src) ≡ 4 * w * h) × (y < h) × (w ≤ length (now spans)) × (w ≤ length (now sizes)) ⌝ }
-    ensures { λ _. ⌜ Filled nan (λ x. square (pointVector Reflection.Specular point scale w (was src) y (was spans) x)) w (was sizes) (became sizes) ⌝ }
+    requires { ⌜ Placed strip × (length (now src) ≡ 4 * strip .width * strip .height) × (y < strip .height) × (strip .count ≤ length (now spans)) × (strip .count ≤ length (now sizes)) ⌝ }
+    ensures { λ _. ⌜ Filled nan (λ i. square (pointVector Reflection.Specular point scale strip (was src) y (was spans) i)) (strip .count) (was sizes) (became sizes) ⌝ }
 {
-    let mut x = 0;
-    while x < w {
-        let v = light::to_point(point, scale, src[4 * (y * w + x) + 3], x, y);
-        let half = light::half_vector(v.unit(spans[x]));
-        sizes[x] = half.dot(half);
-        x += 1;
+    let start = start_of(strip, y);
+    let mut i = 0;
+    while i < strip.count {
+        let alpha = src[start + 4 * i + 3];
+        let v = light::to_point(point, scale, alpha, strip.left + i, y);
+        let half = light::half_vector(v.unit(spans[i]));
+        sizes[i] = half.dot(half);
+        i += 1;
     }
 }
 
@@ -112,40 +111,38 @@ fn halves(
 fn half_lengths(
     point: Vector3,
     scale: f32,
-    w: usize,
-    h: usize,
+    strip: Strip,
     src: &[u8],
     y: usize,
     spans: &[f32],
     sizes: &mut [f32],
 )
-    requires { ⌜ Sized w h × (length (now src) ≡ 4 * w * h) × (y < h) × (w ≤ length (now spans)) × (w ≤ length (now sizes)) ⌝ }
-    ensures { λ _. ⌜ ((x : ℕ) → x < w → getD (became sizes) x nan ≡ Vectors.length (pointVector Reflection.Specular point scale w (was src) y (was spans) x)) ⌝ }
+    requires { ⌜ Placed strip × (length (now src) ≡ 4 * strip .width * strip .height) × (y < strip .height) × (strip .count ≤ length (now spans)) × (strip .count ≤ length (now sizes)) ⌝ }
+    ensures { λ _. ⌜ ((i : ℕ) → i < strip .count → getD (became sizes) i nan ≡ Vectors.length (pointVector Reflection.Specular point scale strip (was src) y (was spans) i)) ⌝ }
 {
-    halves(point, scale, w, h, src, y, spans, sizes);
-    floats::roots(sizes, w);
+    halves(point, scale, strip, src, y, spans, sizes);
+    floats::roots(sizes, strip.count);
 }
 
 // The distances of row y from a point, and the lengths of its half vectors, which only specular light asks for.
 fn point_lengths(
     lighting: Lighting,
     point: Vector3,
-    w: usize,
-    h: usize,
+    strip: Strip,
     src: &[u8],
     y: usize,
     spans: &mut [f32],
     sizes: &mut [f32],
 )
-    requires { ⌜ Sized w h × (length (now src) ≡ 4 * w * h) × (y < h) × (w ≤ length (now spans)) × (w ≤ length (now sizes)) ⌝ }
-    ensures { λ _. ⌜ ((x : ℕ) → x < w → pointRay lighting point w (was src) y (became spans) (became sizes) x ≡ toPointIn lighting point w (was src) y x) ⌝ }
+    requires { ⌜ Placed strip × (length (now src) ≡ 4 * strip .width * strip .height) × (y < strip .height) × (strip .count ≤ length (now spans)) × (strip .count ≤ length (now sizes)) ⌝ }
+    ensures { λ _. ⌜ ((i : ℕ) → i < strip .count → pointRay lighting point strip (was src) y (became spans) (became sizes) i ≡ toPointIn lighting point strip (was src) y i) ⌝ }
 {
     let reflection = lighting.reflection;
-    distances(point, lighting.scale, w, h, src, y, spans);
-    floats::roots(spans, w);
+    distances(point, lighting.scale, strip, src, y, spans);
+    floats::roots(spans, strip.count);
     match reflection {
         Reflection::Diffuse => (),
-        Reflection::Specular => half_lengths(point, lighting.scale, w, h, src, y, spans, sizes),
+        Reflection::Specular => half_lengths(point, lighting.scale, strip, src, y, spans, sizes),
     }
 }
 
@@ -153,8 +150,7 @@ fn point_lengths(
 fn light_along(
     lighting: Lighting,
     direction: Vector3,
-    w: usize,
-    h: usize,
+    strip: Strip,
     sums: &[u16],
     above: &[u8],
     below: &[u8],
@@ -162,21 +158,23 @@ fn light_along(
     y: usize,
     dest: &mut [u8],
 )
-    requires { ⌜ Columns w (now sums) (now above) (now below) × (w ≤ length (now lengths)) ⌝ }
-    requires { ⌜ Sized w h × (length (now dest) ≡ 4 * w * h) × (y < h) ⌝ }
-    ensures { λ _. ⌜ LitRow lighting (λ x. factorIn lighting w h (was sums) (was above) (was below) (was lengths) y (rayOf (lighting .reflection) direction) x) w y (was dest) (became dest) ⌝ }
+    requires { ⌜ Columns (strip .count) (now sums) (now above) (now below) × (strip .count ≤ length (now lengths)) ⌝ }
+    requires { ⌜ Placed strip × (length (now dest) ≡ 4 * strip .width * strip .height) × (y < strip .height) ⌝ }
+    ensures { λ _. ⌜ LitRow lighting (factorIn lighting strip (was sums) (was above) (was below) (was lengths) y (rayOf (lighting .reflection) direction)) strip y (was dest) (became dest) ⌝ }
 {
     let reflection = lighting.reflection;
     let color = lighting.color;
     let vector = light::ray_vector(reflection, direction);
     let size = floats::sqrt32(vector.dot(vector));
-    let mut x = 0;
-    while x < w {
-        let normal = surface::normal_in(w, h, sums, above, below, x, y);
-        let factor = pixel::light_factor(lighting, normal, lengths[x], vector, size);
+    let start = start_of(strip, y);
+    let count = strip.count;
+    let mut i = 0;
+    while i < count {
+        let normal = surface::normal_in(strip, sums, above, below, i, y);
+        let factor = pixel::light_factor(lighting, normal, lengths[i], vector, size);
         let pixel = pixel::lit(reflection, color.red, color.green, color.blue, factor);
-        sheet::pixel::put_pixel(dest, 4 * (y * w) + 4 * x, pixel);
-        x += 1;
+        sheet::pixel::put_pixel(dest, start + 4 * i, pixel);
+        i += 1;
     }
 }
 
@@ -184,8 +182,7 @@ fn light_along(
 fn light_each(
     lighting: Lighting,
     point: Vector3,
-    w: usize,
-    h: usize,
+    strip: Strip,
     src: &[u8],
     sums: &[u16],
     above: &[u8],
@@ -196,21 +193,25 @@ fn light_each(
     y: usize,
     dest: &mut [u8],
 )
-    requires { ⌜ Columns w (now sums) (now above) (now below) × (w ≤ length (now lengths)) × (w ≤ length (now spans)) × (w ≤ length (now sizes)) ⌝ }
-    requires { ⌜ Sized w h × (length (now src) ≡ 4 * w * h) × (length (now dest) ≡ 4 * w * h) × (y < h) ⌝ }
-    ensures { λ _. ⌜ LitRow lighting (pointFactor lighting point w h (was src) (was sums) (was above) (was below) (was lengths) (was spans) (was sizes) y) w y (was dest) (became dest) ⌝ }
+    requires { ⌜ Columns (strip .count) (now sums) (now above) (now below) × (strip .count ≤ length (now lengths)) × (strip .count ≤ length (now spans)) × (strip .count ≤ length (now sizes)) ⌝ }
+    requires { ⌜ Placed strip × (length (now src) ≡ 4 * strip .width * strip .height) × (length (now dest) ≡ 4 * strip .width * strip .height) × (y < strip .height) ⌝ }
+    ensures { λ _. ⌜ LitRow lighting (pointFactor lighting point strip (was src) (was sums) (was above) (was below) (was lengths) (was spans) (was sizes) y) strip y (was dest) (became dest) ⌝ }
 {
     let reflection = lighting.reflection;
     let color = lighting.color;
-    let mut x = 0;
-    while x < w {
-        let normal = surface::normal_in(w, h, sums, above, below, x, y);
-        let v = light::to_point(point, lighting.scale, src[4 * (y * w + x) + 3], x, y);
-        let vector = light::ray_vector(reflection, v.unit(spans[x]));
-        let factor = pixel::light_factor(lighting, normal, lengths[x], vector, sizes[x]);
+    let start = start_of(strip, y);
+    let left = strip.left;
+    let count = strip.count;
+    let mut i = 0;
+    while i < count {
+        let normal = surface::normal_in(strip, sums, above, below, i, y);
+        let alpha = src[start + 4 * i + 3];
+        let v = light::to_point(point, lighting.scale, alpha, left + i, y);
+        let vector = light::ray_vector(reflection, v.unit(spans[i]));
+        let factor = pixel::light_factor(lighting, normal, lengths[i], vector, sizes[i]);
         let pixel = pixel::lit(reflection, color.red, color.green, color.blue, factor);
-        sheet::pixel::put_pixel(dest, 4 * (y * w) + 4 * x, pixel);
-        x += 1;
+        sheet::pixel::put_pixel(dest, start + 4 * i, pixel);
+        i += 1;
     }
 }
 
@@ -218,8 +219,7 @@ fn light_each(
 pub fn distant_row(
     lighting: Lighting,
     direction: Vector3,
-    w: usize,
-    h: usize,
+    strip: Strip,
     src: &[u8],
     y: usize,
     sums: &mut [u16],
@@ -229,16 +229,15 @@ pub fn distant_row(
     dest: &mut [u8],
 )
     requires { ⌜ lighting .light ≡ LightSource.Distant (direction .x) (direction .y) (direction .z) ⌝ }
-    requires { ⌜ Sized w h × (length (now src) ≡ 4 * w * h) × (length (now dest) ≡ 4 * w * h) × (y < h) ⌝ }
-    requires { ⌜ (w + 2 ≤ length (now sums)) × (w + 2 ≤ length (now above)) × (w + 2 ≤ length (now below)) × (w ≤ length (now lengths)) ⌝ }
-    ensures { λ _. ⌜ LitRow lighting (λ x. factorAt lighting w h (was src) x y) w y (was dest) (became dest) ⌝ }
+    requires { ⌜ Placed strip × (length (now src) ≡ 4 * strip .width * strip .height) × (length (now dest) ≡ 4 * strip .width * strip .height) × (y < strip .height) ⌝ }
+    requires { ⌜ (strip .count + 2 ≤ length (now sums)) × (strip .count + 2 ≤ length (now above)) × (strip .count + 2 ≤ length (now below)) × (strip .count ≤ length (now lengths)) ⌝ }
+    ensures { λ _. ⌜ RowDone lighting strip (was src) y (was dest) (became dest) ⌝ }
 {
-    slopes(lighting.scale, w, h, src, y, sums, above, below, lengths);
+    slopes(lighting.scale, strip, src, y, sums, above, below, lengths);
     light_along(
         lighting,
         direction,
-        w,
-        h,
+        strip,
         sums,
         above,
         below,
@@ -252,8 +251,7 @@ pub fn distant_row(
 pub fn point_row(
     lighting: Lighting,
     point: Vector3,
-    w: usize,
-    h: usize,
+    strip: Strip,
     src: &[u8],
     y: usize,
     sums: &mut [u16],
@@ -265,18 +263,17 @@ pub fn point_row(
     dest: &mut [u8],
 )
     requires { ⌜ lighting .light ≡ LightSource.Point (point .x) (point .y) (point .z) ⌝ }
-    requires { ⌜ Sized w h × (length (now src) ≡ 4 * w * h) × (length (now dest) ≡ 4 * w * h) × (y < h) ⌝ }
-    requires { ⌜ (w + 2 ≤ length (now sums)) × (w + 2 ≤ length (now above)) × (w + 2 ≤ length (now below)) ⌝ }
-    requires { ⌜ (w ≤ length (now lengths)) × (w ≤ length (now spans)) × (w ≤ length (now sizes)) ⌝ }
-    ensures { λ _. ⌜ LitRow lighting (λ x. factorAt lighting w h (was src) x y) w y (was dest) (became dest) ⌝ }
+    requires { ⌜ Placed strip × (length (now src) ≡ 4 * strip .width * strip .height) × (length (now dest) ≡ 4 * strip .width * strip .height) × (y < strip .height) ⌝ }
+    requires { ⌜ (strip .count + 2 ≤ length (now sums)) × (strip .count + 2 ≤ length (now above)) × (strip .count + 2 ≤ length (now below)) ⌝ }
+    requires { ⌜ (strip .count ≤ length (now lengths)) × (strip .count ≤ length (now spans)) × (strip .count ≤ length (now sizes)) ⌝ }
+    ensures { λ _. ⌜ RowDone lighting strip (was src) y (was dest) (became dest) ⌝ }
 {
-    slopes(lighting.scale, w, h, src, y, sums, above, below, lengths);
-    point_lengths(lighting, point, w, h, src, y, spans, sizes);
+    slopes(lighting.scale, strip, src, y, sums, above, below, lengths);
+    point_lengths(lighting, point, strip, src, y, spans, sizes);
     light_each(
         lighting,
         point,
-        w,
-        h,
+        strip,
         src,
         sums,
         above,

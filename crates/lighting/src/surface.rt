@@ -1,13 +1,11 @@
 // How the surface leans at a pixel, by the alphas round it.
 ghost use mathlib.Core.Path.{_≡_};
 ghost use Prim.Native.Nat.{ℕ, _+_, _*_, _≤_, _<_};
-ghost use lib.ListN.{length};
+ghost use lib.ListN.{length, getD};
 ghost use lib.IntN.{subℕ};
-ghost use Rattle.sheet.specs.Size.{Sized, sideLimit};
 ghost use Rattle.sheet.specs.Contract.{was, became};
 ghost use Rattle.lighting.specs.Surface as Surface;
-ghost use Rattle.lighting.specs.inner.Lines.{inLine, Inside, SmallFrom, Columns, factorOf, weightedIn, normalIn};
-ghost use Rattle.lighting.specs.inner.Rows.{Changed};
+ghost use Rattle.lighting.specs.inner.Lines.{inLine, Inside, Placed, wideSum, StoredOf, Columns, factorOf, weightedIn, normalIn, normalOf};
 
 const FACTOR_1_2: f32 = 1.0 / 2.0;
 
@@ -30,6 +28,14 @@ pub struct Line {
     pub at: usize,
     pub count: usize,
     pub step: usize,
+}
+
+// Columns of a sheet of these sides, side by side: `count` of them, from column `left` on.
+pub struct Strip {
+    pub width: usize,
+    pub height: usize,
+    pub left: usize,
+    pub count: usize,
 }
 
 fn wide(x: u8) -> u16
@@ -129,91 +135,144 @@ fn factor(along: bool, across: bool) -> f32
     }
 }
 
-// The alphas of row y's columns, from place 1 on: weighted across the row, and those of the rows above and below.
+// The alphas of a strip's columns in row y, from place `at` on: weighted across the row, and those of the rows above and below.
 fn gather(
     src: &[u8],
-    w: usize,
-    h: usize,
+    strip: Strip,
     y: usize,
+    at: usize,
     sums: &mut [u16],
     above: &mut [u8],
     below: &mut [u8],
 )
-    requires { ⌜ Sized w h × (length (now src) ≡ 4 * w * h) × (y < h) ⌝ }
-    requires { ⌜ (w + 2 ≤ length (now sums)) × (w + 2 ≤ length (now above)) × (w + 2 ≤ length (now below)) ⌝ }
-    ensures { λ _. ⌜ Changed 0 (λ x. Surface.weighted h (Surface.alphaAt w (was src) x) y) 1 w (was sums) (became sums) × SmallFrom 1 w (became sums) ⌝ }
-    ensures { λ _. ⌜ Changed 0 (λ x. Surface.alphaAt w (was src) x (Surface.behind y)) 1 w (was above) (became above) ⌝ }
-    ensures { λ _. ⌜ Changed 0 (λ x. Surface.alphaAt w (was src) x (Surface.ahead h y)) 1 w (was below) (became below) ⌝ }
+    requires { ⌜ Placed strip × (length (now src) ≡ 4 * strip .width * strip .height) × (y < strip .height) ⌝ }
+    requires { ⌜ (at + strip .count ≤ length (now sums)) × (at + strip .count ≤ length (now above)) × (at + strip .count ≤ length (now below)) ⌝ }
+    ensures { λ _. ⌜ StoredOf strip (was src) y (strip .left + 1) (strip .count) at (was sums) (was above) (was below) (became sums) (became above) (became below) ⌝ }
 {
     let rows = Line {
         at: y,
-        count: h,
-        step: 4 * w,
+        count: strip.height,
+        step: 4 * strip.width,
     };
     let higher = rows.step * behind(rows);
     let lower = rows.step * ahead(rows);
-    let mut x = 0;
-    while x < w {
-        sums[1 + x] = weighted(src, 4 * x, rows);
-        above[1 + x] = src[higher + 4 * x + 3];
-        below[1 + x] = src[lower + 4 * x + 3];
-        x += 1;
+    let mut i = 0;
+    while i < strip.count {
+        let first = 4 * (strip.left + i);
+        sums[at + i] = weighted(src, first, rows);
+        above[at + i] = src[higher + first + 3];
+        below[at + i] = src[lower + first + 3];
+        i += 1;
     }
 }
 
-// The columns of row y with one more at each edge: the edge's own sum again, and alphas of 0.
-pub fn columns(
+// The place before a strip: the column there, or beyond the sheet's edge the edge's own sum again and alphas of 0.
+fn column_before(
     src: &[u8],
-    w: usize,
-    h: usize,
+    strip: Strip,
     y: usize,
     sums: &mut [u16],
     above: &mut [u8],
     below: &mut [u8],
 )
-    requires { ⌜ Sized w h × (length (now src) ≡ 4 * w * h) × (y < h) ⌝ }
-    requires { ⌜ (w + 2 ≤ length (now sums)) × (w + 2 ≤ length (now above)) × (w + 2 ≤ length (now below)) ⌝ }
-    ensures { λ _. ⌜ Columns w (became sums) (became above) (became below) ⌝ }
-    ensures { λ _. ⌜ ((x : ℕ) → x < w → normalIn w h (became sums) (became above) (became below) x y ≡ Surface.normalAt w h (was src) x y) ⌝ }
+    requires { ⌜ Placed strip × (length (now src) ≡ 4 * strip .width * strip .height) × (y < strip .height) ⌝ }
+    requires { ⌜ (1 < length (now sums)) × (1 < length (now above)) × (1 < length (now below)) ⌝ }
+    requires { ⌜ (getD (now sums) 1 0 ≡ wideSum (strip .width) (strip .height) (now src) y (strip .left + 1)) × (getD (now sums) 1 0 ≤ 1020) ⌝ }
+    ensures { λ _. ⌜ StoredOf strip (was src) y (strip .left) 1 0 (was sums) (was above) (was below) (became sums) (became above) (became below) ⌝ }
 {
-    gather(src, w, h, y, sums, above, below);
-    sums[0] = sums[1];
-    sums[w + 1] = sums[w];
-    above[0] = 0;
-    above[w + 1] = 0;
-    below[0] = 0;
-    below[w + 1] = 0;
+    if strip.left == 0 {
+        sums[0] = sums[1];
+        above[0] = 0;
+        below[0] = 0;
+        return;
+    }
+    let column = Strip {
+        width: strip.width,
+        height: strip.height,
+        left: strip.left - 1,
+        count: 1,
+    };
+    gather(src, column, y, 0, sums, above, below);
+}
+
+// The place after a strip, likewise.
+fn column_after(
+    src: &[u8],
+    strip: Strip,
+    y: usize,
+    sums: &mut [u16],
+    above: &mut [u8],
+    below: &mut [u8],
+)
+    requires { ⌜ Placed strip × (length (now src) ≡ 4 * strip .width * strip .height) × (y < strip .height) ⌝ }
+    requires { ⌜ (strip .count + 2 ≤ length (now sums)) × (strip .count + 2 ≤ length (now above)) × (strip .count + 2 ≤ length (now below)) ⌝ }
+    requires { ⌜ (getD (now sums) (strip .count) 0 ≡ wideSum (strip .width) (strip .height) (now src) y (strip .left + strip .count)) × (getD (now sums) (strip .count) 0 ≤ 1020) ⌝ }
+    ensures { λ _. ⌜ StoredOf strip (was src) y (strip .left + strip .count + 1) 1 (strip .count + 1) (was sums) (was above) (was below) (became sums) (became above) (became below) ⌝ }
+{
+    let count = strip.count;
+    let column = Strip {
+        width: strip.width,
+        height: strip.height,
+        left: strip.left + count,
+        count: 1,
+    };
+    if column.left < strip.width {
+        gather(src, column, y, count + 1, sums, above, below);
+        return;
+    }
+    sums[count + 1] = sums[count];
+    above[count + 1] = 0;
+    below[count + 1] = 0;
+}
+
+// A strip's columns in row y, from place 1 on, with the one before it and the one after it.
+pub fn columns(
+    src: &[u8],
+    strip: Strip,
+    y: usize,
+    sums: &mut [u16],
+    above: &mut [u8],
+    below: &mut [u8],
+)
+    requires { ⌜ Placed strip × (length (now src) ≡ 4 * strip .width * strip .height) × (y < strip .height) ⌝ }
+    requires { ⌜ (strip .count + 2 ≤ length (now sums)) × (strip .count + 2 ≤ length (now above)) × (strip .count + 2 ≤ length (now below)) ⌝ }
+    ensures { λ _. ⌜ Columns (strip .count) (became sums) (became above) (became below) ⌝ }
+    ensures { λ _. ⌜ ((i : ℕ) → i < strip .count → normalIn strip (became sums) (became above) (became below) i y ≡ normalOf strip (was src) y i) ⌝ }
+{
+    gather(src, strip, y, 1, sums, above, below);
+    column_before(src, strip, y, sums, above, below);
+    column_after(src, strip, y, sums, above, below);
 }
 
 // The alphas of three columns of a row by the weights 1, 2, 1.
-fn weighted_in(row: &[u8], x: usize) -> u16
-    requires { ⌜ x + 2 < length (now row) ⌝ }
-    ensures { λ r. ⌜ (r ≡ weightedIn (was row) x) × (r ≤ 1020) ⌝ }
+fn weighted_in(row: &[u8], i: usize) -> u16
+    requires { ⌜ i + 2 < length (now row) ⌝ }
+    ensures { λ r. ⌜ (r ≡ weightedIn (was row) i) × (r ≤ 1020) ⌝ }
 {
-    wide(row[x]) + 2 * wide(row[x + 1]) + wide(row[x + 2])
+    wide(row[i]) + 2 * wide(row[i + 1]) + wide(row[i + 2])
 }
 
-// How the surface leans at the pixel in column x and row y, by the columns of the row.
+// How the surface leans at the pixel in column i of a strip and in row y, by the columns round it.
 pub fn normal_in(
-    w: usize,
-    h: usize,
+    strip: Strip,
     sums: &[u16],
     above: &[u8],
     below: &[u8],
-    x: usize,
+    i: usize,
     y: usize,
 ) -> Normal
-    requires { ⌜ Columns w (now sums) (now above) (now below) × (x < w) × (y < h) × (w ≤ sideLimit) × (h ≤ sideLimit) ⌝ }
-    ensures { λ r. ⌜ r ≡ normalIn w h (was sums) (was above) (was below) x y ⌝ }
+    requires { ⌜ Placed strip × Columns (strip .count) (now sums) (now above) (now below) × (i < strip .count) × (y < strip .height) ⌝ }
+    ensures { λ r. ⌜ r ≡ normalIn strip (was sums) (was above) (was below) i y ⌝ }
 {
-    let side = at_edge(x as u16, w as u16);
-    let end = at_edge(y as u16, h as u16);
-    let lower = weighted_in(below, x);
-    let higher = weighted_in(above, x);
+    let x = strip.left + i;
+    let side = at_edge(x as u16, strip.width as u16);
+    let end = at_edge(y as u16, strip.height as u16);
+    let lower = weighted_in(below, i);
+    let higher = weighted_in(above, i);
     Normal {
         fx: factor(side, end),
         fy: factor(end, side),
-        x: turned(sums[x + 2], sums[x]),
+        x: turned(sums[i + 2], sums[i]),
         y: turned(lower, higher),
     }
 }

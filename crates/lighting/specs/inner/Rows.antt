@@ -1,71 +1,82 @@
--- Words of the passes' contracts: work space of one place a column, and the bytes of one row.
-use Prim.Native.Nat.{ℕ, _+_, _*_, _/_, _%_, _≤_, _<_}
+-- Words of the passes' contracts: work space of one place a column of a strip, and the bytes of one row of it.
+use Prim.Native.Nat.{ℕ, _+_, _*_, _/_, _%_, _<_}
 use mathlib.Core.Path.{_≡_}
 use mathlib.Core.List.{List}
 use lib.ListN.{length, getD}
 use lib.Ieee.{Float, nan}
+use Rattle.sheet.specs.inner.Strips.{Changed, Worked}
 use Rattle.lighting.specs.declared.light.Reflection.{Reflection}
 use Rattle.lighting.specs.declared.light.Ray.{Ray}
 use Rattle.lighting.specs.declared.pixel.Lighting.{Lighting}
+use Rattle.lighting.specs.declared.surface.Strip.{Strip}
 use Rattle.lighting.specs.declared.vector.Vector3.{Vector3}
 use Rattle.lighting.specs.Vectors as Vectors
-use Rattle.lighting.specs.Surface.{alphaAt, normalAt}
+use Rattle.lighting.specs.Surface.{alphaAt}
 use Rattle.lighting.specs.Light.{toPoint, rayOf, normalVector}
-use Rattle.lighting.specs.Lighting.{litChannel}
-use Rattle.lighting.specs.inner.Lines.{Columns, normalIn}
+use Rattle.lighting.specs.Lighting.{litChannel, litAt}
+use Rattle.lighting.specs.inner.Lines.{Columns, normalIn, normalOf}
 use Rattle.lighting.specs.inner.Rays.{fromSurface, unitBy, rayVector, rayBy}
 use Rattle.lighting.specs.inner.Pixels.{factorBy}
-
--- the n elements from `at` on became g 0, g 1, .., and no other element changed; z is what `getD` gives past the end
-pub record Changed {A : Type 0} (z : A) (g : ℕ → A) (at n : ℕ) (l l′ : List A) : Type 0 where
-  pub same : length l′ ≡ length l
-  pub inside : (i : ℕ) → i < n → getD l′ (at + i) z ≡ g i
-  pub before : (k : ℕ) → k < at → getD l′ k z ≡ getD l k z
-  pub after : (k : ℕ) → at + n ≤ k → getD l′ k z ≡ getD l k z
 
 -- the first n elements became g 0, g 1, ..
 pub record Filled {A : Type 0} (z : A) (g : ℕ → A) (n : ℕ) (l l′ : List A) : Type 0 where
   pub same : length l′ ≡ length l
-  pub inside : (x : ℕ) → x < n → getD l′ x z ≡ g x
+  pub inside : (i : ℕ) → i < n → getD l′ i z ≡ g i
 
 -- ---- slopes
--- a row's columns and the lengths of its normal vectors are those of row y
-pub record Sloped (scale : Float) (w h : ℕ) (s : List ℕ) (y : ℕ) (sums above below : List ℕ) (lengths : List Float) : Type 0 where
-  pub columns : Columns w sums above below
-  pub normals : (x : ℕ) → x < w → normalIn w h sums above below x y ≡ normalAt w h s x y
-  pub lengths-are : (x : ℕ) → x < w → getD lengths x nan ≡ Vectors.length (normalVector scale (normalAt w h s x y))
+-- a strip's columns and the lengths of its normal vectors are those of row y
+pub record Sloped (scale : Float) (strip : Strip) (s : List ℕ) (y : ℕ) (sums above below : List ℕ) (lengths : List Float) : Type 0 where
+  pub columns : Columns (strip .count) sums above below
+  pub normals : (i : ℕ) → i < strip .count → normalIn strip sums above below i y ≡ normalOf strip s y i
+  pub lengths-are : (i : ℕ) → i < strip .count → getD lengths i nan ≡ Vectors.length (normalVector scale (normalOf strip s y i))
 
--- ---- rays to a point, in column x of row y
+-- ---- rays to a point, from column i of a strip in row y
 -- the vector to it, not divided by its length yet
-abbrev pub fromRow : Vector3 → (scale : Float) → ℕ → List ℕ → (y x : ℕ) → Vector3
-fromRow point scale w s y x = fromSurface point scale (alphaAt w s x y) x y
+abbrev pub fromRow : Vector3 → (scale : Float) → Strip → List ℕ → (y i : ℕ) → Vector3
+fromRow point scale strip s y i = fromSurface point scale (alphaAt (strip .width) s (strip .left + i) y) (strip .left + i) y
 
 -- the ray's vector, where the distances are given
-abbrev pub pointVector : Reflection → Vector3 → (scale : Float) → ℕ → List ℕ → ℕ → List Float → ℕ → Vector3
-pointVector reflection point scale w s y spans x = rayVector reflection (unitBy (fromRow point scale w s y x) (getD spans x nan))
+abbrev pub pointVector : Reflection → Vector3 → (scale : Float) → Strip → List ℕ → ℕ → List Float → ℕ → Vector3
+pointVector reflection point scale strip s y spans i = rayVector reflection (unitBy (fromRow point scale strip s y i) (getD spans i nan))
 
 -- the ray, where the vectors' lengths are given too
-abbrev pub pointRay : Lighting → Vector3 → ℕ → List ℕ → ℕ → (spans sizes : List Float) → ℕ → Ray
-pointRay l point w s y spans sizes x = rayBy (l .reflection) (pointVector (l .reflection) point (l .scale) w s y spans x) (getD sizes x nan)
+abbrev pub pointRay : Lighting → Vector3 → Strip → List ℕ → ℕ → (spans sizes : List Float) → ℕ → Ray
+pointRay l point strip s y spans sizes i = rayBy (l .reflection) (pointVector (l .reflection) point (l .scale) strip s y spans i) (getD sizes i nan)
 
--- the ray by the definition
-abbrev pub toPointIn : Lighting → Vector3 → ℕ → List ℕ → (y x : ℕ) → Ray
-toPointIn l point w s y x = rayOf (l .reflection) (toPoint (point .x) (point .y) (point .z) (l .scale) (alphaAt w s x y) x y)
+-- the light vector and the ray by the definition
+abbrev pub toPointFrom : Lighting → Vector3 → Strip → List ℕ → (y i : ℕ) → Vector3
+toPointFrom l point strip s y i = toPoint (point .x) (point .y) (point .z) (l .scale) (alphaAt (strip .width) s (strip .left + i) y) (strip .left + i) y
+
+abbrev pub toPointIn : Lighting → Vector3 → Strip → List ℕ → (y i : ℕ) → Ray
+toPointIn l point strip s y i = rayOf (l .reflection) (toPointFrom l point strip s y i)
 
 -- ---- pixels
--- the factor in column x of row y, by the row's columns and the lengths of its normal vectors
-abbrev pub factorIn : Lighting → (w h : ℕ) → (sums above below : List ℕ) → List Float → ℕ → Ray → ℕ → Float
-factorIn l w h sums above below lengths y ray x = factorBy (l .scale) (l .constant) (normalIn w h sums above below x y) (getD lengths x nan) ray
+-- the factor in column i of a strip and in row y, by the strip's columns and the lengths of its normal vectors
+abbrev pub factorIn : Lighting → Strip → (sums above below : List ℕ) → List Float → ℕ → Ray → ℕ → Float
+factorIn l strip sums above below lengths y ray i = factorBy (l .scale) (l .constant) (normalIn strip sums above below i y) (getD lengths i nan) ray
 
 -- the same under a point
-abbrev pub pointFactor : Lighting → Vector3 → (w h : ℕ) → (s sums above below : List ℕ) → (lengths spans sizes : List Float) → (y x : ℕ) → Float
-pointFactor l point w h s sums above below lengths spans sizes y x =
-    factorIn l w h sums above below lengths y (pointRay l point w s y spans sizes x) x
+abbrev pub pointFactor : Lighting → Vector3 → Strip → (s sums above below : List ℕ) → (lengths spans sizes : List Float) → (y i : ℕ) → Float
+pointFactor l point strip s sums above below lengths spans sizes y i =
+    factorIn l strip sums above below lengths y (pointRay l point strip s y spans sizes i) i
 
--- byte j of a row whose pixels are lit by factors
+-- byte j of pixels that are lit by factors
 abbrev pub rowBy : Lighting → (ℕ → Float) → ℕ → ℕ
 rowBy l f j = litChannel (l .reflection) (l .color) (f (j / 4)) (j % 4)
 
--- the bytes of row y became those
-abbrev pub LitRow : Lighting → (ℕ → Float) → (w y : ℕ) → (d d′ : List ℕ) → Type 0
-LitRow l f w y d d′ = Changed 0 (rowBy l f) (4 * (y * w)) (4 * w) d d′
+-- ---- one row of a strip
+-- where it begins
+abbrev pub startOf : Strip → ℕ → ℕ
+startOf strip y = 4 * (y * strip .width + strip .left)
+
+-- its bytes became those
+abbrev pub LitRow : Lighting → (ℕ → Float) → Strip → ℕ → (d d′ : List ℕ) → Type 0
+LitRow l f strip y d d′ = Changed 0 (rowBy l f) (startOf strip y) (4 * strip .count) d d′
+
+-- its bytes became the result's
+abbrev pub RowDone : Lighting → Strip → List ℕ → ℕ → (d d′ : List ℕ) → Type 0
+RowDone l strip s y d d′ = Changed 0 (λ j. litAt l (strip .width) (strip .height) s (startOf strip y + j)) (startOf strip y) (4 * strip .count) d d′
+
+-- the result stands in the columns before the strip, and in the strip's rows above y
+abbrev pub StripDone : Lighting → Strip → List ℕ → ℕ → List ℕ → Type 0
+StripDone l strip s y d = Worked (litAt l (strip .width) (strip .height) s) (strip .width) (strip .left) (strip .count) y d

@@ -4,60 +4,65 @@ use Prim.Native.Nat.{_-_, _≤_}
 use mathlib.Core.Path.{_≡_}
 use native.Mathlib.Omega.{arith}
 use lib.Ieee.{nan}
-use Rattle.sheet.proofs.Places.{place-inside}
 use Rattle.lighting.specs.inner.Rays.{square}
 use Rattle.lighting.specs.inner.Rows.{Filled, fromRow}
+use Rattle.lighting.proofs.Leans.{alpha-along, along-inside}
 use Rattle.lighting.proofs.Passes.{filled-none, filled-more}
 use Rattle.lighting.proofs.rows.distances.Statement.{statement}
 use Rattle.lighting.proofs.rows.distances.Tie as tie
 
 abbrev Inv-loop : tie.InvT-loop
-Inv-loop point scale w h src y spans₀ x₀ spans x = (x ≤ w) × Filled nan (λ i. square (fromRow point scale w src y i)) x spans₀ spans
+Inv-loop point scale strip src y spans₀ start i₀ spans i =
+    (i ≤ strip .count) × Filled nan (λ j. square (fromRow point scale strip src y j)) i spans₀ spans
 
 abbrev μ-loop : tie.MeasureT-loop
-μ-loop point scale w h src y spans₀ x₀ spans x = w - x
+μ-loop point scale strip src y spans₀ start i₀ spans i = strip .count - i
+
+start-of-requires : tie.Need-start-of-requires Inv-loop μ-loop
+start-of-requires c κs = search needs
 
 loop-holds : tie.Need-loop-holds Inv-loop μ-loop
 loop-holds c = (search needs, filled-none _ _ _)
 
-mul-to-point : tie.Need-mul-to-point Inv-loop μ-loop
-mul-to-point c =
-    let a = c .before .before .before .before .args in
-    let p = c .before .before .before .before .pre in
-    let z = place-inside (a .w) (a .h) (c .before .loop .x) (a .y) 3 (c .loop-test .taken) (p .2) (omega arith) in
-    let r = p .0 .area in
+mul-alpha : tie.Need-mul-alpha Inv-loop μ-loop
+mul-alpha c =
+    let a = c .before .before .before .before .before .before .args in
+    let p = c .before .before .before .before .before .before .pre in
+    let e = c .before .before .before .start-of .ensures in
+    let area = p .0 .sized .area in
+    let z = along-inside (a .strip) (a .y) _ e (p .0) (p .2) (c .before .before .loop .i) (c .if1 .taken) in
+    search needs
+
+add-alpha : tie.Need-add-alpha Inv-loop μ-loop
+add-alpha c =
+    let a = c .before .before .before .before .before .before .args in
+    let p = c .before .before .before .before .before .before .pre in
+    let e = c .before .before .before .start-of .ensures in
+    let area = p .0 .sized .area in
+    let z = along-inside (a .strip) (a .y) _ e (p .0) (p .2) (c .before .before .loop .i) (c .if1 .taken) in
+    search needs
+
+add-alpha-2 : tie.Need-add-alpha-2 Inv-loop μ-loop
+add-alpha-2 c =
+    let a = c .before .before .before .before .before .before .args in
+    let p = c .before .before .before .before .before .before .pre in
+    let e = c .before .before .before .start-of .ensures in
+    let area = p .0 .sized .area in
+    let z = along-inside (a .strip) (a .y) _ e (p .0) (p .2) (c .before .before .loop .i) (c .if1 .taken) in
+    search needs
+
+shared-slice-read-alpha : tie.Need-shared-slice-read-alpha Inv-loop μ-loop
+shared-slice-read-alpha c =
+    let the-loop = c .before .before .before .loop in
+    let a = c .before .before .before .before .before .before .before .args in
+    let p = c .before .before .before .before .before .before .before .pre in
+    let e = c .before .before .before .before .start-of .ensures in
+    let area = p .0 .sized .area in
+    let z = along-inside (a .strip) (a .y) _ e (p .0) (p .2) (the-loop .i) (c .before .if1 .taken) in
     search needs
 
 add-to-point : tie.Need-add-to-point Inv-loop μ-loop
-add-to-point c =
-    let a = c .before .before .before .before .args in
-    let p = c .before .before .before .before .pre in
-    let z = place-inside (a .w) (a .h) (c .before .loop .x) (a .y) 3 (c .loop-test .taken) (p .2) (omega arith) in
-    let r = p .0 .area in
-    search needs
-
-mul-to-point-2 : tie.Need-mul-to-point-2 Inv-loop μ-loop
-mul-to-point-2 c =
-    let a = c .before .before .before .before .args in
-    let p = c .before .before .before .before .pre in
-    let z = place-inside (a .w) (a .h) (c .before .loop .x) (a .y) 3 (c .loop-test .taken) (p .2) (omega arith) in
-    let r = p .0 .area in
-    search needs
-
-add-to-point-2 : tie.Need-add-to-point-2 Inv-loop μ-loop
-add-to-point-2 c =
-    let a = c .before .before .before .before .args in
-    let p = c .before .before .before .before .pre in
-    let z = place-inside (a .w) (a .h) (c .before .loop .x) (a .y) 3 (c .loop-test .taken) (p .2) (omega arith) in
-    let r = p .0 .area in
-    search needs
-
-shared-slice-read-to-point : tie.Need-shared-slice-read-to-point Inv-loop μ-loop
-shared-slice-read-to-point c =
-    let a = c .before .before .before .before .before .args in
-    let p = c .before .before .before .before .before .pre in
-    let z = place-inside (a .w) (a .h) (c .before .before .loop .x) (a .y) 3 (c .before .loop-test .taken) (p .2) (omega arith) in
-    search needs
+add-to-point c = search needs
 
 to-point-requires : tie.Need-to-point-requires Inv-loop μ-loop
 to-point-requires c κs = search needs
@@ -71,25 +76,29 @@ mul-spans c = search needs
 slice-write-spans : tie.Need-slice-write-spans Inv-loop μ-loop
 slice-write-spans c = search needs
 
-add-x : tie.Need-add-x Inv-loop μ-loop
-add-x c = search needs
+add-i : tie.Need-add-i Inv-loop μ-loop
+add-i c = search needs
 
 loop-less : tie.Need-loop-less Inv-loop μ-loop
 loop-less c = search needs
 
 loop-again : tie.Need-loop-again Inv-loop μ-loop
 loop-again c =
-    let i = c .before .before .before .before .loop .inv .1 in
-    let l = i .same in
-    (search needs, filled-more _ _ _ _ i (search needs) (rw (c .before .to-point .ensures) at (c .dot .ensures)))
+    let the-loop = c .before .before .before .before .before .before .loop in
+    let the-start-of = c .before .before .before .before .before .before .before .start-of in
+    let a = c .before .before .before .before .before .before .before .before .before .before .args in
+    let r = the-loop .inv .1 in
+    let l = r .same in
+    (search needs, filled-more _ _ _ _ r (search needs) (rw (c .before .to-point .ensures, alpha-along (a .strip) (a .y) _ (the-start-of .ensures) (a .src .now) (the-loop .i)) at (c .dot .ensures)))
 
 same-length : tie.Need-same-length Inv-loop μ-loop
 same-length c = search needs
 
 returns : tie.Need-returns Inv-loop μ-loop
 returns c =
-    let m = c .before .loop .inv .1 in
-    let z : c .before .loop .x ≡ c .before .before .before .before .args .w = omega arith in
+    let the-args = c .before .before .before .before .before .before .args in
+    let m = c .before .before .loop .inv .1 in
+    let z : c .before .before .loop .i ≡ the-args .strip .count = omega arith in
     rw z at m
 
 pub distances-spec : {M : Type 1} → statement M
@@ -98,17 +107,18 @@ distances-spec =
     (tie.spec
     Inv-loop
     μ-loop
+    start-of-requires
     loop-holds
-    mul-to-point
+    mul-alpha
+    add-alpha
+    add-alpha-2
+    shared-slice-read-alpha
     add-to-point
-    mul-to-point-2
-    add-to-point-2
-    shared-slice-read-to-point
     to-point-requires
     dot-requires
     mul-spans
     slice-write-spans
-    add-x
+    add-i
     loop-less
     loop-again
     same-length

@@ -1,7 +1,6 @@
 -- A distant light's vector is the same at every pixel.
 use borrow.Author.Needs.{needs}
 use Rattle.lighting.proofs.LitRows.{distant-lit}
-use borrow.Author.Needs.{needs}
 use Rattle.lighting.proofs.rows.distant_row.Statement.{statement}
 use Rattle.lighting.proofs.rows.distant_row.Tie as tie
 
@@ -10,10 +9,10 @@ slopes-requires c κs = search needs
 
 light-along-requires : tie.Need-light-along-requires
 light-along-requires c κs =
+    let the-slopes = c .before .before .before .before .before .before .before .before .before .before .before .before .before .slopes in
     let p = c .before .before .before .before .before .before .before .before .before .before .before .before .before .before .before .before .before .before .before .before .before .before .before .before .pre .1 in
-    let e = c .before .before .before .before .before .before .before .before .before .before .before .before .before .slopes .ensures .columns in
     let lengths = p .1 .3 in
-    ((e, search needs), (p .0 .0, p .0 .2, p .0 .3))
+    ((the-slopes .ensures .columns, search needs), (p .0 .0, p .0 .2, p .0 .3))
 
 same-length : tie.Need-same-length
 same-length c = search needs
@@ -33,9 +32,9 @@ same-length-5 c = search needs
 returns : tie.Need-returns
 returns c =
     let the-slopes = c .before .before .before .before .before .before .before .before .before .before .before .before .before .before .before .before .slopes in
-    let the-pre = c .before .before .before .before .before .before .before .before .before .before .before .before .before .before .before .before .before .before .before .before .before .before .before .before .before .before .before .pre in
     let a = c .before .before .before .before .before .before .before .before .before .before .before .before .before .before .before .before .before .before .before .before .before .before .before .before .before .before .before .args in
-    distant-lit (a .lighting) (a .w) (a .h) (a .src .now) (a .y) (the-slopes .ensures) (a .direction) (the-pre .0) (c .before .before .light-along .ensures)
+    let p = c .before .before .before .before .before .before .before .before .before .before .before .before .before .before .before .before .before .before .before .before .before .before .before .before .before .before .before .pre in
+    distant-lit (a .lighting) (a .strip) (a .src .now) (a .y) (p .1 .0 .0) (the-slopes .ensures) (a .direction) (p .0) (c .before .before .light-along .ensures)
 
 pub distant-row-spec : {M : Type 1} → statement M
 distant-row-spec =

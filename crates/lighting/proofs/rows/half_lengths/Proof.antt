@@ -3,7 +3,6 @@ use borrow.Author.Needs.{needs}
 use Rattle.lighting.specs.declared.light.Reflection.the-variants.{Specular}
 use Rattle.lighting.specs.inner.Rows.{pointVector}
 use Rattle.lighting.proofs.Passes.{filled-length}
-use borrow.Author.Needs.{needs}
 use Rattle.lighting.proofs.rows.half_lengths.Statement.{statement}
 use Rattle.lighting.proofs.rows.half_lengths.Tie as tie
 
@@ -21,7 +20,7 @@ returns c =
     let the-pre = c .before .before .before .before .before .before .before .before .before .before .before .pre in
     let the-halves = c .before .before .before .before .before .before .halves in
     let a = c .before .before .before .before .before .before .before .before .before .before .before .args in
-    filled-length (pointVector Specular (a .point) (a .scale) (a .w) (a .src .now) (a .y) (a .spans .now)) (a .w) (the-pre .4) (the-halves .ensures) (c .before .before .roots .ensures)
+    filled-length (pointVector Specular (a .point) (a .scale) (a .strip) (a .src .now) (a .y) (a .spans .now)) (a .strip .count) (the-pre .4) (the-halves .ensures) (c .before .before .roots .ensures)
 
 pub half-lengths-spec : {M : Type 1} → statement M
 half-lengths-spec = tie.close (tie.spec halves-requires roots-requires same-length returns)

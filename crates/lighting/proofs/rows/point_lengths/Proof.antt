@@ -1,7 +1,6 @@
 -- The roots of the products are the lengths; diffuse light asks for no half vector.
 use borrow.Author.Needs.{needs}
 use Rattle.lighting.proofs.Passes.{diffuse-ray, specular-ray}
-use borrow.Author.Needs.{needs}
 use Rattle.lighting.proofs.rows.point_lengths.Statement.{statement}
 use Rattle.lighting.proofs.rows.point_lengths.Tie as tie
 
@@ -26,9 +25,10 @@ same-length c = search needs
 returns : tie.Need-returns
 returns c =
     let the-pre = c .before .before .before .before .before .before .before .before .before .before .before .before .before .pre in
-    let a = c .before .before .before .before .before .before .before .before .before .before .before .before .before .args in
     let the-distances = c .before .before .before .before .before .before .before .before .distances in
-    diffuse-ray (a .lighting) (a .point) (a .w) (a .src .now) (a .y) (the-pre .3) (the-distances .ensures) (c .before .before .before .before .roots .ensures) (a .sizes .now) (c .enum-told .given .1)
+    let the-roots = c .before .before .before .before .roots in
+    let a = c .before .before .before .before .before .before .before .before .before .before .before .before .before .args in
+    diffuse-ray (a .lighting) (a .point) (a .strip) (a .src .now) (a .y) (the-pre .3) (the-distances .ensures) (the-roots .ensures) (a .sizes .now) (c .enum-told .given .1)
 
 same-length-2 : tie.Need-same-length-2
 same-length-2 c = search needs
@@ -39,12 +39,12 @@ same-length-3 c = search needs
 returns-2 : tie.Need-returns-2
 returns-2 c =
     let the-pre = c .before .before .before .before .before .before .before .before .before .before .before .before .before .before .before .before .before .before .pre in
-    let the-enum-told2 = c .before .before .before .before .before .enum-told2 in
-    let a = c .before .before .before .before .before .before .before .before .before .before .before .before .before .before .before .before .before .before .args in
     let the-distances = c .before .before .before .before .before .before .before .before .before .before .before .before .before .distances in
     let the-roots = c .before .before .before .before .before .before .before .before .before .roots in
-    let the-half-lengths = c .before .before .half-lengths in
-    specular-ray (a .lighting) (a .point) (a .w) (a .src .now) (a .y) (the-pre .3) (the-distances .ensures) (the-roots .ensures) (the-half-lengths .last .1 .1 .1 .1 .1 .1 .1 .0) (the-enum-told2 .given .1) (the-half-lengths .ensures)
+    let the-enum-told2 = c .before .before .before .before .before .enum-told2 in
+    let a = c .before .before .before .before .before .before .before .before .before .before .before .before .before .before .before .before .before .before .args in
+    let l = c .before .before .half-lengths in
+    specular-ray (a .lighting) (a .point) (a .strip) (a .src .now) (a .y) (the-pre .3) (the-distances .ensures) (the-roots .ensures) (l .last .1 .1 .1 .1 .1 .1 .0) (the-enum-told2 .given .1) (l .ensures)
 
 pub point-lengths-spec : {M : Type 1} → statement M
 point-lengths-spec =

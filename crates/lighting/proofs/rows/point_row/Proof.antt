@@ -1,7 +1,6 @@
 -- A point's rays are made of their distances and lengths.
 use borrow.Author.Needs.{needs}
 use Rattle.lighting.proofs.LitRows.{point-lit}
-use borrow.Author.Needs.{needs}
 use Rattle.lighting.proofs.rows.point_row.Statement.{statement}
 use Rattle.lighting.proofs.rows.point_row.Tie as tie
 
@@ -9,16 +8,20 @@ slopes-requires : tie.Need-slopes-requires
 slopes-requires c κs = search needs
 
 point-lengths-requires : tie.Need-point-lengths-requires
-point-lengths-requires c κs = search needs
+point-lengths-requires c κs =
+    let p = c .before .before .before .before .before .before .before .before .before .before .before .before .before .before .before .before .before .before .before .before .before .before .before .pre .1 in
+    let spans = p .1 .1 .1 in
+    let sizes = p .1 .1 .2 in
+    (p .0 .0, p .0 .1, p .0 .3, search needs, search needs)
 
 light-each-requires : tie.Need-light-each-requires
 light-each-requires c κs =
+    let the-slopes = c .before .before .before .before .before .before .before .before .before .before .before .before .before .before .before .before .before .before .before .before .before .before .slopes in
     let p = c .before .before .before .before .before .before .before .before .before .before .before .before .before .before .before .before .before .before .before .before .before .before .before .before .before .before .before .before .before .before .before .before .before .before .before .pre .1 in
-    let e = c .before .before .before .before .before .before .before .before .before .before .before .before .before .before .before .before .before .before .before .before .before .before .slopes .ensures .columns in
     let lengths = p .1 .1 .0 in
     let spans = p .1 .1 .1 in
     let sizes = p .1 .1 .2 in
-    ((e, search needs, search needs, search needs), (p .0 .0, p .0 .1, p .0 .2, p .0 .3))
+    ((the-slopes .ensures .columns, search needs, search needs, search needs), p .0)
 
 same-length : tie.Need-same-length
 same-length c = search needs
@@ -44,10 +47,10 @@ same-length-7 c = search needs
 returns : tie.Need-returns
 returns c =
     let the-slopes = c .before .before .before .before .before .before .before .before .before .before .before .before .before .before .before .before .before .before .before .before .before .before .before .before .before .slopes in
-    let the-pre = c .before .before .before .before .before .before .before .before .before .before .before .before .before .before .before .before .before .before .before .before .before .before .before .before .before .before .before .before .before .before .before .before .before .before .before .before .before .before .pre in
     let a = c .before .before .before .before .before .before .before .before .before .before .before .before .before .before .before .before .before .before .before .before .before .before .before .before .before .before .before .before .before .before .before .before .before .before .before .before .before .before .args in
-    let the-lengths = c .before .before .before .before .before .before .before .before .before .before .before .before .before .before .point-lengths in
-    point-lit (a .lighting) (a .w) (a .h) (a .src .now) (a .y) (the-slopes .ensures) (a .point) (the-lengths .last .1 .1 .1 .1 .1 .1 .0) (the-lengths .last .1 .1 .1 .1 .1 .1 .1 .0) (the-pre .0) (the-lengths .ensures) (c .before .before .light-each .ensures)
+    let p = c .before .before .before .before .before .before .before .before .before .before .before .before .before .before .before .before .before .before .before .before .before .before .before .before .before .before .before .before .before .before .before .before .before .before .before .before .before .before .pre in
+    let l = c .before .before .before .before .before .before .before .before .before .before .before .before .before .before .point-lengths in
+    point-lit (a .lighting) (a .strip) (a .src .now) (a .y) (p .1 .0 .0) (the-slopes .ensures) (a .point) (l .last .1 .1 .1 .1 .1 .0) (l .last .1 .1 .1 .1 .1 .1 .0) (p .0) (l .ensures) (c .before .before .light-each .ensures)
 
 pub point-row-spec : {M : Type 1} → statement M
 point-row-spec =

@@ -5,7 +5,6 @@ use Rattle.lighting.specs.declared.surface.Normal.{Normal}
 use Rattle.lighting.specs.Vectors as Vectors
 use Rattle.lighting.specs.Light.{normalVector}
 use Rattle.lighting.proofs.Passes.{filled-length}
-use borrow.Author.Needs.{needs}
 use Rattle.lighting.proofs.rows.slopes.Statement.{statement}
 use Rattle.lighting.proofs.rows.slopes.Tie as tie
 
@@ -32,15 +31,14 @@ same-length-4 c = search needs
 
 returns : tie.Need-returns
 returns c =
+    let the-squares = c .before .before .before .before .before .before .squares in
     let a = c .before .before .before .before .before .before .before .before .before .before .before .before .before .before .before .before .before .before .before .before .before .before .before .before .before .before .args in
     let p = c .before .before .before .before .before .before .before .before .before .before .before .before .before .before .before .before .before .before .before .before .before .before .before .before .before .before .pre in
     let e = c .before .before .before .before .before .before .before .before .before .before .before .before .before .before .before .before .before .columns .ensures in
-    let the-squares = c .before .before .before .before .before .before .squares .ensures in
-    let the-roots = c .before .before .roots .ensures in
     record {
       columns = e .0;
       normals = e .1;
-      lengths-are = λ x q. filled-length _ (a .w) (p .1 .3) the-squares the-roots x q ∙ ap (λ (n : Normal). Vectors.length (normalVector (a .scale) n)) (e .1 x q);
+      lengths-are = λ i q. filled-length _ (a .strip .count) (p .1 .3) (the-squares .ensures) (c .before .before .roots .ensures) i q ∙ ap (λ (n : Normal). Vectors.length (normalVector (a .scale) n)) (e .1 i q);
     }
 
 pub slopes-spec : {M : Type 1} → statement M

@@ -13,10 +13,11 @@ use Rattle.lighting.proofs.rows.squares.Statement.{statement}
 use Rattle.lighting.proofs.rows.squares.Tie as tie
 
 abbrev Inv-loop : tie.InvT-loop
-Inv-loop scale w h sums above below y lengths₀ x₀ lengths x = (x ≤ w) × Filled nan (λ i. square (normalVector scale (normalIn w h sums above below i y))) x lengths₀ lengths
+Inv-loop scale strip sums above below y lengths₀ i₀ lengths i =
+    (i ≤ strip .count) × Filled nan (λ j. square (normalVector scale (normalIn strip sums above below j y))) i lengths₀ lengths
 
 abbrev μ-loop : tie.MeasureT-loop
-μ-loop scale w h sums above below y lengths₀ x₀ lengths x = w - x
+μ-loop scale strip sums above below y lengths₀ i₀ lengths i = strip .count - i
 
 loop-holds : tie.Need-loop-holds Inv-loop μ-loop
 loop-holds c = (search needs, filled-none _ _ _)
@@ -36,26 +37,26 @@ mul-lengths c = search needs
 slice-write-lengths : tie.Need-slice-write-lengths Inv-loop μ-loop
 slice-write-lengths c = search needs
 
-add-x : tie.Need-add-x Inv-loop μ-loop
-add-x c = search needs
+add-i : tie.Need-add-i Inv-loop μ-loop
+add-i c = search needs
 
 loop-less : tie.Need-loop-less Inv-loop μ-loop
 loop-less c = search needs
 
 loop-again : tie.Need-loop-again Inv-loop μ-loop
 loop-again c =
-    let i = c .before .before .before .before .loop .inv .1 in
-    let l = i .same in
-    (search needs, filled-more _ _ _ _ i (search needs) (rw (c .before .normal-vector .ensures, c .before .before .normal-in .ensures) at (c .dot .ensures)))
+    let r = c .before .before .before .before .before .loop .inv .1 in
+    let l = r .same in
+    (search needs, filled-more _ _ _ _ r (search needs) (rw (c .before .normal-vector .ensures, c .before .before .normal-in .ensures) at (c .dot .ensures)))
 
 same-length : tie.Need-same-length Inv-loop μ-loop
 same-length c = search needs
 
 returns : tie.Need-returns Inv-loop μ-loop
 returns c =
-    let the-args = c .before .before .before .before .before .before .args in
-    let m = c .before .loop .inv .1 in
-    let z : c .before .loop .x ≡ the-args .w = omega arith in
+    let the-args = c .before .before .before .before .before .before .before .args in
+    let m = c .before .before .loop .inv .1 in
+    let z : c .before .before .loop .i ≡ the-args .strip .count = omega arith in
     rw z at m
 
 pub squares-spec : {M : Type 1} → statement M
@@ -70,7 +71,7 @@ squares-spec =
     dot-requires
     mul-lengths
     slice-write-lengths
-    add-x
+    add-i
     loop-less
     loop-again
     same-length

@@ -2,9 +2,11 @@
 use borrow.Author.Needs.{needs}
 use Prim.Native.Nat.{_+_}
 use Rattle.lighting.specs.Surface.{leanFactor}
-use borrow.Author.Needs.{needs}
 use Rattle.lighting.proofs.surface.normal_in.Statement.{statement}
 use Rattle.lighting.proofs.surface.normal_in.Tie as tie
+
+add-x : tie.Need-add-x
+add-x c = search needs
 
 cast-at-edge : tie.Need-cast-at-edge
 cast-at-edge c = search needs
@@ -53,9 +55,9 @@ shared-slice-read-turned-2 c = search needs
 
 turned-requires : tie.Need-turned-requires
 turned-requires c κs =
-    let p = c .before .before .before .before .before .before .before .before .before .before .before .pre in
-    let a = c .before .before .before .before .before .before .before .before .before .before .before .args in
-    (p .0 .small (a .x + 2) (search needs), p .0 .small (a .x) (search needs))
+    let p = c .before .before .before .before .before .before .before .before .before .before .before .before .before .before .pre in
+    let a = c .before .before .before .before .before .before .before .before .before .before .before .before .before .before .args in
+    (p .1 .small (a .i + 2) (search needs), p .1 .small (a .i) (search needs))
 
 turned-requires-2 : tie.Need-turned-requires-2
 turned-requires-2 c κs = search needs
@@ -64,16 +66,18 @@ returns : tie.Need-returns
 unfolding leanFactor
 returns c =
     let the-factor = c .before .before .before .before .before .factor in
-    let the-at-edge = c .before .before .before .before .before .before .before .before .before .at-edge in
+    let the-factor2 = c .before .before .before .before .factor2 in
+    let the-at-edge = c .before .before .before .before .before .before .before .before .before .before .at-edge in
     let the-at-edge2 = c .before .before .before .before .before .before .before .before .at-edge2 in
     let the-weighted-in = c .before .before .before .before .before .before .before .weighted-in in
     let the-weighted-in2 = c .before .before .before .before .before .before .weighted-in2 in
-    rw (the-factor .ensures, c .before .before .before .before .factor2 .ensures, the-at-edge .ensures, the-at-edge2 .ensures, c .before .turned .ensures, c .turned2 .ensures, the-weighted-in .ensures .0, the-weighted-in2 .ensures .0)
+    rw (the-factor .ensures, the-factor2 .ensures, the-at-edge .ensures, the-at-edge2 .ensures, c .before .turned .ensures, c .turned2 .ensures, the-weighted-in .ensures .0, the-weighted-in2 .ensures .0)
 
 pub normal-in-spec : {M : Type 1} → statement M
 normal-in-spec =
     tie.close
     (tie.spec
+    add-x
     cast-at-edge
     cast-at-edge-2
     at-edge-requires
