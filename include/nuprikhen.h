@@ -11,7 +11,7 @@
  * changed. The first test that fails gives the number:
  *
  *   0  done
- *   1  width or height outside 1..2048
+ *   1  width or height outside 1..4096
  *   2  a sheet or scratch is not exactly 4 * width * height bytes
  *   3  a matrix is not of 20 numbers, a table is over 256 entries, a linear
  *      function is not of 2 numbers, or a kernel is not of rows * columns

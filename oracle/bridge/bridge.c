@@ -77,7 +77,7 @@ static void transfer(long call, uint8_t *at, size_t n) {
     }
 }
 
-enum { ROOM = 1 << 27, STRIP = 64, JUNK = 0xa5 };
+enum { ROOM = 1 << 28, STRIP = 64, JUNK = 0xa5 };
 static uint8_t request[ROOM] __attribute__((aligned(16)));
 static uint8_t arena[ROOM] __attribute__((aligned(16)));
 static size_t at, used;

@@ -10,6 +10,7 @@ use crate::case::{Case, Param};
 use crate::ours;
 use crate::primitives::{ALL, Primitive};
 use crate::rng::Rng;
+use crate::table;
 
 const SIDE: u32 = 1024;
 const FLOATS: usize = 4_000_000;
@@ -39,6 +40,7 @@ pub fn run(slow: bool) -> ExitCode {
     }
     turbulence(SIDE);
     turbulence(64);
+    largest(table::SIDE);
     recipes::rows();
     ExitCode::SUCCESS
 }
@@ -226,6 +228,24 @@ fn primitives(input: &str, sheet: &[u8], slow: bool) {
             primitive_row(convolve_matrix, &what, input, kernel(side, edge), sheet, 2);
         }
     }
+}
+
+/// Morphology and the colour matrix on the largest sheet.
+fn largest(side: u32) {
+    let [morphology, color_matrix, ..] = &ALL;
+    let input = format!("{side} x {side}");
+    let sheet = noise(side);
+    let dilate = [Param::Choice(0), Param::float(1.0), Param::float(1.0)];
+    primitive_row(
+        morphology,
+        "dilate 1 by 1",
+        &input,
+        dilate.into(),
+        &sheet,
+        2,
+    );
+    let [(what, matrix), ..] = color_matrices();
+    primitive_row(color_matrix, what, &input, matrix, &sheet, 1);
 }
 
 /// It reads no sheet: on small ones the tables that a seed is drawn into cost the most.

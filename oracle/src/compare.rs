@@ -88,14 +88,22 @@ fn compare_draws(primitive: &Primitive, wanted: &Wanted) -> Result<(), String> {
     })
 }
 
-/// Rows and columns as long as is allowed, sides of 600 and more, and once the largest sheet.
+/// The library works on so many columns at a time.
+const STRIP: u32 = 512;
+
+/// Rows and columns as long as is allowed, sides of 600 and more, a few rows that end about a strip's end, and once the
+/// largest sheet.
 fn large(rng: &mut Rng, i: u32) -> (u32, u32) {
     let mut side = || 600 + rng.below(400);
-    match (i, i % 3) {
+    match (i, i % 4) {
         (4, _) => (SIDE, SIDE),
         (_, 0) => (SIDE, 1),
         (_, 1) => (1, SIDE),
-        _ => (side(), side()),
+        (_, 2) => (side(), side()),
+        _ => (
+            STRIP * (1 + rng.below(3)) - 2 + rng.below(5),
+            3 + rng.below(6),
+        ),
     }
 }
 

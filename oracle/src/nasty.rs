@@ -152,14 +152,17 @@ pub fn spoil(rng: &mut Rng, case: &mut Case, limits: Limits) {
     }
 }
 
-/// A side of 0, 2,049 or much more; small sheets sometimes get the bytes that the new size wants.
+/// The most bytes that a sheet is made longer to: what crates/vectors holds of one.
+const HELD: u128 = 20_480;
+
+/// A side of 0, one more than is allowed or much more; small sheets sometimes get the bytes that the new size wants.
 fn spoil_size(rng: &mut Rng, case: &mut Case) {
     let side = rng.pick(&[
         0,
         0,
         SIDE + 1,
         SIDE + 1,
-        4096,
+        2 * SIDE,
         65535,
         65536,
         1 << 30,
@@ -171,7 +174,7 @@ fn spoil_size(rng: &mut Rng, case: &mut Case) {
         1 => case.height = side,
         _ => (case.width, case.height) = (side, side),
     }
-    if rng.one_in(2) && case.size() <= 16 * SIDE as u128 {
+    if rng.one_in(2) && case.size() <= HELD {
         let size = case.size() as usize;
         case.sheets
             .iter_mut()

@@ -5,7 +5,7 @@ use crate::case::{Answer, Case};
 use crate::exact;
 
 /// The largest side.
-pub const SIDE: u32 = 2048;
+pub const SIDE: u32 = 4096;
 /// The most entries of a transfer table.
 pub const ENTRIES: usize = 256;
 

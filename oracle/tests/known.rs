@@ -4,6 +4,7 @@ use oracle::case::{Case, Param};
 use oracle::nasty::Limits;
 use oracle::primitives::{ALL, Primitive};
 use oracle::rng::Rng;
+use oracle::table::SIDE;
 
 fn primitive(name: &str) -> &'static Primitive {
     ALL.iter().find(|primitive| primitive.name == name).unwrap()
@@ -113,7 +114,7 @@ fn the_first_test_that_fails_answers() {
     assert_eq!(number(&case), 3);
     case.sheets[0].push(0);
     assert_eq!(number(&case), 2);
-    case.width = 2049;
+    case.width = SIDE + 1;
     assert_eq!(number(&case), 1);
 }
 
@@ -146,15 +147,15 @@ fn ends_of_ranges_are_inside() {
 }
 
 #[test]
-fn sides_up_to_2048_are_taken() {
+fn sides_up_to_4096_are_taken() {
     for primitive in &ALL {
         let wide = (primitive.known)()
             .into_iter()
-            .filter(|case| case.width >= 2048);
+            .filter(|case| case.width >= 4096);
         let answers: Vec<(u32, u8)> = wide
             .map(|case| (case.width, primitive.answer(&case).number))
             .collect();
-        assert_eq!(answers, [(2048, 0), (2049, 1)], "{}", primitive.name);
+        assert_eq!(answers, [(4096, 0), (4097, 1)], "{}", primitive.name);
     }
 }
 

@@ -26,7 +26,7 @@ usage: filter_pam IN.pam OUT.pam FILTER
   edges, ripple, emboss, clouds
                      a convolution, a displacement, lighting and turbulence at work
 
-Pictures are PAM: P7, RGB_ALPHA, DEPTH 4, MAXVAL 255, sides 1 to 2,048. Colour is taken as it stands:
+Pictures are PAM: P7, RGB_ALPHA, DEPTH 4, MAXVAL 255, sides 1 to 4,096. Colour is taken as it stands:
 dilate and erode take it as premultiplied, the others as straight, which is the same where a picture
 is opaque.";
 
@@ -277,11 +277,11 @@ mod tests {
             ),
             (
                 format!("P7\n{entries}HEIGHT 0\nWIDTH 3\nENDHDR\n"),
-                "sides are 1 to 2048",
+                "sides are 1 to 4096",
             ),
             (
-                format!("P7\n{entries}HEIGHT 1\nWIDTH 2049\nENDHDR\n"),
-                "sides are 1 to 2048",
+                format!("P7\n{entries}HEIGHT 1\nWIDTH 4097\nENDHDR\n"),
+                "sides are 1 to 4096",
             ),
             (
                 format!("P7\n{entries}HEIGHT 2\nWIDTH 3\nENDHDR\n"),

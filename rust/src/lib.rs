@@ -33,4 +33,4 @@ pub mod turbulence;
 pub use refusal::Refusal;
 
 /// The longest side of a sheet.
-pub const SIDE_LIMIT: u32 = 2048;
+pub const SIDE_LIMIT: u32 = 4096;

@@ -9,7 +9,7 @@ use std::fmt;
 ///
 /// | number | name | when |
 /// |---|---|---|
-/// | 1 | Size | width or height outside 1..=2,048 |
+/// | 1 | Size | width or height outside 1..=4,096 |
 /// | 2 | Length | a sheet or scratch is not exactly 4 x width x height bytes |
 /// | 3 | Shape | a matrix is not of 20 numbers, a table is over 256 entries, or a kernel has a wrong side, target or count |
 /// | 4 | NotFinite | a parameter is NaN or infinite |
@@ -51,7 +51,7 @@ pub struct Refusal {
 
 /// Short names and what they say, from number 1 on.
 const TESTS: [(&str, &str); 11] = [
-    ("Size", "width or height outside 1..=2,048"),
+    ("Size", "width or height outside 1..=4,096"),
     (
         "Length",
         "a sheet or scratch is not exactly 4 x width x height bytes",

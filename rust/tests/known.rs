@@ -121,7 +121,7 @@ fn each_channel_has_its_function() {
 
 #[test]
 fn sides_from_one_to_the_limit() {
-    for (side, number) in [(0, 1), (1, 0), (2048, 0), (2049, 1)] {
+    for (side, number) in [(0, 1), (1, 0), (4096, 0), (4097, 1)] {
         for (width, height) in [(side, 1), (1, side)] {
             let mut src = vec![5; 4 * side as usize];
             let mut scratch = vec![7; src.len()];
@@ -135,7 +135,7 @@ fn sides_from_one_to_the_limit() {
             );
         }
     }
-    assert_eq!(SIDE_LIMIT, 2048);
+    assert_eq!(SIDE_LIMIT, 4096);
 }
 
 /// White's luminance is a little below 1 in f32, and it is cut.

@@ -200,9 +200,9 @@ fn sizes_lengths_and_counts() {
         let sheets = Sheets::new(Kind::Premultiplied, width, height, source());
         refused_of(recipe, sheets).to_string()
     };
-    let size = "refused 1 (Size): width or height outside 1..=2,048";
+    let size = "refused 1 (Size): width or height outside 1..=4,096";
     assert_eq!(said(0, 5, &one), size);
-    assert_eq!(said(2049, 5, &one), size);
+    assert_eq!(said(4097, 5, &one), size);
     let length = "refused 2 (Length): a sheet or scratch is not exactly 4 x width x height bytes";
     assert_eq!(said(7, 6, &one), length);
     let steps = "refused 6 (Steps): a recipe of 0 steps or over 16";

@@ -11,7 +11,7 @@ const NOT_FINITE: [f32; 3] = [f32::NAN, f32::INFINITY, f32::NEG_INFINITY];
 /// The floats next beyond the ends of -65,536..=65,536.
 const BEYOND: [f32; 2] = [65_536.01, -65_536.01];
 /// Sizes that are refused; the sheets beside them are of 2 x 2.
-const SIZES: [(u32, u32); 5] = [(0, 2), (2, 0), (2049, 2), (2, 2049), (u32::MAX, u32::MAX)];
+const SIZES: [(u32, u32); 5] = [(0, 2), (2, 0), (4097, 2), (2, 4097), (u32::MAX, u32::MAX)];
 /// Lengths that no sheet of 2 x 2 has.
 const LENGTHS: [usize; 5] = [0, 1, 15, 17, 64];
 

@@ -152,7 +152,7 @@ unfoldable pub headerOf : List ℕ → Picture
 headerOf file = cond (begins magic file) (header unsaid 3 (lines (drop 3 file))) (Wrong NotPam)
 
 -- ---- the whole file
--- sides of at most 2,048, no more than `most` pixels, and exactly the pixels' bytes from `start` on
+-- sides of at most `sideLimit`, no more than `most` pixels, and exactly the pixels' bytes from `start` on
 unfoldable pub fitted : ℕ → ℕ → ℕ → ℕ → ℕ → Picture
 fitted most size w h start =
     cond (leb w sideLimit)

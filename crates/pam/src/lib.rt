@@ -22,7 +22,7 @@ pub enum Fault {
     Kind,
     // WIDTH or HEIGHT is missing, is 0 or is no number.
     NoSize,
-    // A side outside 1..=2,048.
+    // A side outside 1..=4,096.
     Size(usize, usize),
     // More pixels than are taken.
     Pixels(usize, usize),

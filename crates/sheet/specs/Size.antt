@@ -9,7 +9,7 @@ use Rattle.sheet.specs.Answer.{refusal, andThen}
 
 -- the longest side of a sheet
 abbrev pub sideLimit : ℕ
-sideLimit = 2048
+sideLimit = 4096
 
 -- a width or a height is within 1..=sideLimit
 unfoldable pub isSide : ℕ → Bool

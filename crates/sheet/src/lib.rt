@@ -35,7 +35,7 @@ pub struct Size {
 }
 
 // The longest side of a sheet.
-pub const SIDE_LIMIT: usize = 2048;
+pub const SIDE_LIMIT: usize = 4096;
 
 // The most columns of a strip: what is worked out for each column has work space for so many, however wide the sheet is.
 pub const STRIP: usize = 512;

@@ -92,6 +92,13 @@ fn known(exponent: Option<f32>) -> Vec<Case> {
             vec![255; 48],
         ),
         case(4, 3, with((2, [f32::NAN; 3]), 1.0, 1.0), bumps(12)),
+        // Wider than a strip of 512 columns.
+        case(
+            515,
+            3,
+            with((POINT, [500.0, 1.0, 40.0]), 5.0, 1.0),
+            bumps(1545),
+        ),
     ];
     cases.extend(long_rows(|width, row| {
         case(width, 1, with(above(1.0), 5.0, 1.0), row)

@@ -100,10 +100,10 @@ fn alphas(values: &[u8]) -> Vec<u8> {
     values.iter().flat_map(|a| [0, 0, 0, *a]).collect()
 }
 
-/// A row as wide as is allowed, and one that is a pixel too wide.
+/// A row as wide as is allowed, and one that is a pixel too wide, for which a pixel's bytes are lent.
 fn long_rows(case: impl Fn(u32, Vec<u8>) -> Case) -> Vec<Case> {
     let row = |width: u32| (0..4 * width).map(|i| (i * i / 7) as u8).collect();
-    [table::SIDE, table::SIDE + 1]
-        .map(|width| case(width, row(width)))
+    [(table::SIDE, table::SIDE), (table::SIDE + 1, 1)]
+        .map(|(width, lent)| case(width, row(lent)))
         .into()
 }

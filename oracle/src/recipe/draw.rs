@@ -6,7 +6,7 @@ use crate::case::Case;
 use crate::nasty::{self, Limits};
 use crate::primitives;
 use crate::rng::Rng;
-use crate::table::{LEAST_DIVISOR, WIDE};
+use crate::table::{LEAST_DIVISOR, SIDE, WIDE};
 
 const LIMITS: Limits = Limits {
     side: 5,
@@ -295,7 +295,7 @@ pub fn draw_spoiled(rng: &mut Rng, first: u8, second: u8) -> Recipe {
 fn spoil(rng: &mut Rng, recipe: &mut Recipe, number: u8, at: usize) {
     match number {
         1 => {
-            let side = rng.pick(&[0, 0, 2049, 4096, 65536, 1 << 30, u32::MAX]);
+            let side = rng.pick(&[0, 0, SIDE + 1, 2 * SIDE, 65536, 1 << 30, u32::MAX]);
             match rng.one_in(2) {
                 true => recipe.width = side,
                 false => recipe.height = side,

@@ -15,9 +15,9 @@ pub enum Kind {
 pub struct Sheets<S, B> {
     /// The kind of the source.
     pub kind: Kind,
-    /// 1 to 2,048.
+    /// 1 to 4,096.
     pub width: u32,
-    /// 1 to 2,048.
+    /// 1 to 4,096.
     pub height: u32,
     /// Slot 0, which is never written.
     pub source: S,

@@ -8,6 +8,7 @@ use mathlib.Core.List.{List}
 use lib.ListN.{length}
 use lib.Dec.{lit<}
 use lib.Ieee.{Float}
+use Rattle.sheet.specs.Size.{sideLimit}
 use Rattle.sheet.proofs.Filling.{Painting, paint-start, paint-room, paint-pixel, paint-done}
 use Rattle.displacement_map.specs.DisplacementMap.{place, displacedAt, displaced}
 use Rattle.displacement_map.specs.inner.Moving.{Small}
@@ -107,7 +108,7 @@ add-at c =
     let s = the-loop .inv .0 .filling .same in
     let e = the-pre .1 .1 .1 in
     let a = the-pre .0 .0 .area in
-    let few : the-loop .at + 4 ≤ 16777220 = omega arith in
+    let few : the-loop .at + 4 ≤ 4 * sideLimit * sideLimit + 4 = omega arith in
     search needs
 
 loop-less : tie.Need-loop-less Inv-loop μ-loop
