@@ -1,18 +1,22 @@
 -- What the passes over a row of a strip give together: each place's number is the definition's.
 use Prim.Native.Nat.{ℕ, _+_, _≤_, _<_}
 use mathlib.Core.Path.{_≡_, refl, ap, _∙_}
+use mathlib.Core.Bool.{Bool, true, false, cond}
 use mathlib.Core.List.{List}
 use native.Mathlib.Nat.{not-suc-le-zero}
 use native.Mathlib.Omega.{arith}
 use borrow.Author.Count.{below-more}
-use lib.ListN.{length, getD, set, length-set}
+use lib.ListN.{length, getD, set, replicate, length-set, getD-replicate}
 use lib.Seq.{getD-set-same, getD-set-other}
 use lib.Ieee.{Float, nan, binary32}
+use Rattle.floats.specs.Constants.{c0}
+use Rattle.floats.specs.Operators.{_⊗_, _⊘_}
+use Rattle.floats.specs.Order.{nearZero}
 use Rattle.floats.specs.Root.{sqrtOf, firstRoots}
 use Rattle.floats.proofs.FirstRoots.{getD-root}
 use Rattle.lighting.specs.declared.light.Reflection.{Reflection}
 use Rattle.lighting.specs.declared.light.Reflection.the-variants.{Diffuse, Specular}
-use Rattle.lighting.specs.declared.light.Ray.{Ray}
+use Rattle.lighting.specs.declared.light.LightSource.the-variants.{Distant}
 use Rattle.lighting.specs.declared.light.Ray.the-variants.{Light, Half, Short}
 use Rattle.lighting.specs.declared.surface.Normal.{Normal}
 use Rattle.lighting.specs.declared.surface.Strip.{Strip}
@@ -21,18 +25,19 @@ use Rattle.lighting.specs.declared.pixel.Lighting.{Lighting}
 use Rattle.lighting.specs.Vectors as Vectors
 use Rattle.lighting.specs.Light.{toPoint, halfRay, rayOf, normalVector, along, lightFactor}
 use Rattle.lighting.specs.inner.Rays.{square, unitBy, rayVector, rayBy}
-use Rattle.lighting.specs.inner.Pixels.{factorBy}
-use Rattle.lighting.specs.inner.Rows.{Filled, fromRow, pointVector, pointRay, toPointFrom, toPointIn}
+use Rattle.lighting.specs.inner.Pixels.{alongBy, factorAlong}
+use Rattle.lighting.specs.inner.Rows.{Filled, DistantRays, fromRow, pointVector, pointRay, toPointFrom, toPointIn}
 
 -- ---- places that are filled one by one
 module _ {A : Type 0} (z : A) (g : ℕ → A) (l : List A) where
   pub filled-none : Filled z g 0 l l
-  filled-none = record { same = refl; inside = λ i h. absurd (not-suc-le-zero h) }
+  filled-none = record { same = refl; inside = λ i h. absurd (not-suc-le-zero h); rest = λ i h. refl }
 
   pub filled-more : {n : ℕ} {l′ : List A} (v : A) → Filled z g n l l′ → n < length l′ → v ≡ g n → Filled z g (n + 1) l (set l′ n v)
   filled-more {n} {l′} v f h e = record {
     same = length-set l′ n v ∙ f .same;
     inside = below-more (λ i. getD (set l′ n v) i z ≡ g i) n (λ i p. getD-set-other l′ n i v z (omega arith) ∙ f .inside i p) (getD-set-same l′ n v z h ∙ e);
+    rest = λ i p. getD-set-other l′ n i v z (omega arith) ∙ f .rest i (omega arith);
   }
 
 -- ---- lengths
@@ -49,12 +54,20 @@ unfolding halfRay
 ray-is Diffuse v = refl
 ray-is Specular v = refl
 
+-- a distant light's is the same at every pixel
+pub distant-rays : (l : Lighting) (direction v : Vector3) (size : Float) (k : ℕ) {n : ℕ} → l .light ≡ Distant (direction .x) (direction .y) (direction .z) → v ≡ rayVector (l .reflection) direction → size ≡ Vectors.length v → n ≤ k → DistantRays l v (replicate k size) n
+distant-rays l direction v size k e f g h i p a x y =
+    rw (getD-replicate k i size nan (omega arith), g, f, e) (ray-is (l .reflection) direction)
+
 -- ---- factors
-pub factor-is : (scale constant : Float) (n : Normal) (ray : Ray) → factorBy scale constant n (Vectors.length (normalVector scale n)) ray ≡ lightFactor scale constant n ray
+pub factor-is : (scale constant : Float) (n : Normal) (reflection : Reflection) (v : Vector3) (size : Float) → factorAlong reflection constant (alongBy scale n (Vectors.length (normalVector scale n)) v) size ≡ lightFactor scale constant n (rayBy reflection v size)
 unfolding along
-factor-is scale constant n (Light v) = refl
-factor-is scale constant n (Half h l) = refl
-factor-is scale constant n Short = refl
+factor-is scale constant n Diffuse v size = refl
+factor-is scale constant n Specular v size = go (nearZero size)
+  where
+    go : (short : Bool) → cond short c0 (constant ⊗ (alongBy scale n (Vectors.length (normalVector scale n)) v ⊘ size)) ≡ lightFactor scale constant n (cond short Short (Half v size))
+    go true = refl
+    go false = refl
 
 -- ---- rays to a point
 module _ (l : Lighting) (point : Vector3) (strip : Strip) (s : List ℕ) (y : ℕ) {spans₀ spans₁ spans : List Float} (r : strip .count ≤ length spans₀) (d : Filled nan (λ i. square (fromRow point (l .scale) strip s y i)) (strip .count) spans₀ spans₁) (roots : spans ≡ firstRoots (strip .count) spans₁) where

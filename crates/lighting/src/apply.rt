@@ -1,4 +1,5 @@
 // Every pixel of a sheet: strip by strip, and each strip row by row.
+use crate::light;
 use crate::light::LightSource;
 use crate::pixel::Lighting;
 use crate::rows;
@@ -27,6 +28,9 @@ fn distant_rows(lighting: Lighting, direction: Vector3, strip: Strip, src: &[u8]
     requires { ⌜ StripDone lighting strip (now src) 0 (now dest) ⌝ }
     ensures { λ _. ⌜ StripDone lighting strip (was src) (strip .height) (became dest) ⌝ }
 {
+    let reflection = lighting.reflection;
+    let vector = light::ray_vector(reflection, direction);
+    let sizes = [floats::sqrt32(vector.dot(vector)); STRIP];
     let mut sums = [0u16; WIDENED];
     let mut above = [0u8; WIDENED];
     let mut below = [0u8; WIDENED];
@@ -35,7 +39,8 @@ fn distant_rows(lighting: Lighting, direction: Vector3, strip: Strip, src: &[u8]
     while y < strip.height {
         rows::distant_row(
             lighting,
-            direction,
+            vector,
+            &sizes,
             strip,
             src,
             y,

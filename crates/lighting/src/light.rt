@@ -1,8 +1,6 @@
 // What lights a pixel.
 use crate::vector::Vector3;
 ghost use mathlib.Core.Path.{_≡_};
-ghost use Prim.Native.Nat.{_≤_};
-ghost use Rattle.sheet.specs.Size.{sideLimit};
 ghost use Rattle.lighting.specs.inner.Rays.{fromSurface, rayVector};
 
 // A distant light has a direction, a point has a place.
@@ -25,15 +23,12 @@ pub enum Ray {
 }
 
 // From the surface of a pixel to a point.
-pub fn to_point(point: Vector3, scale: f32, alpha: u8, x: usize, y: usize) -> Vector3
-    requires { ⌜ (x ≤ sideLimit) × (y ≤ sideLimit) ⌝ }
+pub fn to_point(point: Vector3, scale: f32, alpha: u8, x: u16, y: u16) -> Vector3
     ensures { λ r. ⌜ r ≡ fromSurface point scale alpha x y ⌝ }
 {
     let nz = floats::normalized(alpha) * scale;
-    let column: u16 = x as u16;
-    let row: u16 = y as u16;
-    let nx = column as f32;
-    let ny = row as f32;
+    let nx = x as f32;
+    let ny = y as f32;
     point.sub(Vector3 {
         x: nx,
         y: ny,

@@ -10,8 +10,7 @@ ghost use mathlib.Core.Path.{_≡_};
 ghost use Prim.Native.Nat.{max};
 ghost use Rattle.lighting.specs.Light as Light;
 ghost use Rattle.lighting.specs.Lighting.{litColour};
-ghost use Rattle.lighting.specs.inner.Pixels.{colour, alongBy, factorBy, Lit};
-ghost use Rattle.lighting.specs.inner.Rays.{rayBy};
+ghost use Rattle.lighting.specs.inner.Pixels.{colour, alongBy, factorAlong, Lit};
 
 // A light's colour.
 pub struct Color {
@@ -51,7 +50,7 @@ pub fn normal_vector(scale: f32, normal: Normal) -> Vector3
 }
 
 // How far v goes along the surface's normal, whose vector has the given length.
-fn along(scale: f32, normal: Normal, length: f32, v: Vector3) -> f32
+pub fn along(scale: f32, normal: Normal, length: f32, v: Vector3) -> f32
     ensures { λ r. ⌜ r ≡ alongBy scale normal length v ⌝ }
 {
     let n = normal_vector(scale, normal);
@@ -59,25 +58,17 @@ fn along(scale: f32, normal: Normal, length: f32, v: Vector3) -> f32
     if is_flat(normal) { v.z } else { slanted }
 }
 
-// resvg's `light_factor` along the vector of a ray, where the length of the normal vector and that of the ray's are given.
-pub fn light_factor(
-    lighting: Lighting,
-    normal: Normal,
-    length: f32,
-    vector: Vector3,
-    size: f32,
-) -> f32
-    ensures { λ r. ⌜ r ≡ factorBy (lighting .scale) (lighting .constant) normal length (rayBy (lighting .reflection) vector size) ⌝ }
+// resvg's `light_factor`, where it is given how far the ray's vector goes along the normal, and the vector's length.
+pub fn light_factor(reflection: Reflection, constant: f32, along: f32, size: f32) -> f32
+    ensures { λ r. ⌜ r ≡ factorAlong reflection constant along size ⌝ }
 {
-    let reflection = lighting.reflection;
-    let along = along(lighting.scale, normal, length, vector);
     match reflection {
-        Reflection::Diffuse => lighting.constant * along,
+        Reflection::Diffuse => constant * along,
         Reflection::Specular => {
             if floats::near_zero(size) {
                 0.0
             } else {
-                lighting.constant * (along / size)
+                constant * (along / size)
             }
         }
     }

@@ -13,10 +13,10 @@ ghost use lib.ListN.{length, getD};
 ghost use lib.Ieee.{nan};
 ghost use Rattle.sheet.specs.Contract.{was, became};
 ghost use Rattle.lighting.specs.Vectors as Vectors;
-ghost use Rattle.lighting.specs.Light.{normalVector, rayOf};
+ghost use Rattle.lighting.specs.Light.{normalVector};
 ghost use Rattle.lighting.specs.inner.Lines.{Placed, Columns, normalIn};
 ghost use Rattle.lighting.specs.inner.Rays.{square};
-ghost use Rattle.lighting.specs.inner.Rows.{Filled, Sloped, startOf, LitRow, RowDone, factorIn, fromRow, pointVector, pointRay, pointFactor, toPointIn};
+ghost use Rattle.lighting.specs.inner.Rows.{Filled, Sloped, startOf, DistantRays, Alongs, factorsBy, LitRow, RowDone, fromRow, pointVector, pointRay, toPointIn};
 
 // Where a strip's bytes of row y begin.
 fn start_of(strip: Strip, y: usize) -> usize
@@ -77,7 +77,7 @@ fn distances(point: Vector3, scale: f32, strip: Strip, src: &[u8], y: usize, spa
     let mut i = 0;
     while i < strip.count {
         let alpha = src[start + 4 * i + 3];
-        let v = light::to_point(point, scale, alpha, strip.left + i, y);
+        let v = light::to_point(point, scale, alpha, surface::column(strip, i), y as u16);
         spans[i] = v.dot(v);
         i += 1;
     }
@@ -100,7 +100,7 @@ fn halves(
     let mut i = 0;
     while i < strip.count {
         let alpha = src[start + 4 * i + 3];
-        let v = light::to_point(point, scale, alpha, strip.left + i, y);
+        let v = light::to_point(point, scale, alpha, surface::column(strip, i), y as u16);
         let half = light::half_vector(v.unit(spans[i]));
         sizes[i] = half.dot(half);
         i += 1;
@@ -146,40 +146,30 @@ fn point_lengths(
     }
 }
 
-// Row y of `dest`, lit by a light vector.
-fn light_along(
-    lighting: Lighting,
-    direction: Vector3,
+// How far a vector goes along each normal of row y, in the place of the normal's length.
+fn along_vector(
+    scale: f32,
+    vector: Vector3,
     strip: Strip,
     sums: &[u16],
     above: &[u8],
     below: &[u8],
-    lengths: &[f32],
     y: usize,
-    dest: &mut [u8],
+    lengths: &mut [f32],
 )
-    requires { ⌜ Columns (strip .count) (now sums) (now above) (now below) × (strip .count ≤ length (now lengths)) ⌝ }
-    requires { ⌜ Placed strip × (length (now dest) ≡ 4 * strip .width * strip .height) × (y < strip .height) ⌝ }
-    ensures { λ _. ⌜ LitRow lighting (factorIn lighting strip (was sums) (was above) (was below) (was lengths) y (rayOf (lighting .reflection) direction)) strip y (was dest) (became dest) ⌝ }
+    requires { ⌜ Placed strip × Columns (strip .count) (now sums) (now above) (now below) × (y < strip .height) × (strip .count ≤ length (now lengths)) ⌝ }
+    ensures { λ _. ⌜ Alongs scale (λ _. vector) strip (was sums) (was above) (was below) y (was lengths) (became lengths) ⌝ }
 {
-    let reflection = lighting.reflection;
-    let color = lighting.color;
-    let vector = light::ray_vector(reflection, direction);
-    let size = floats::sqrt32(vector.dot(vector));
-    let start = start_of(strip, y);
-    let count = strip.count;
     let mut i = 0;
-    while i < count {
+    while i < strip.count {
         let normal = surface::normal_in(strip, sums, above, below, i, y);
-        let factor = pixel::light_factor(lighting, normal, lengths[i], vector, size);
-        let pixel = pixel::lit(reflection, color.red, color.green, color.blue, factor);
-        sheet::pixel::put_pixel(dest, start + 4 * i, pixel);
+        lengths[i] = pixel::along(scale, normal, lengths[i], vector);
         i += 1;
     }
 }
 
-// Row y of `dest`, lit by a point, whose distances and whose rays' lengths are given.
-fn light_each(
+// Likewise for the vectors of the rays to a point, whose distances are given.
+fn along_each(
     lighting: Lighting,
     point: Vector3,
     strip: Strip,
@@ -187,38 +177,84 @@ fn light_each(
     sums: &[u16],
     above: &[u8],
     below: &[u8],
-    lengths: &[f32],
     spans: &[f32],
-    sizes: &[f32],
     y: usize,
-    dest: &mut [u8],
+    lengths: &mut [f32],
 )
-    requires { ⌜ Columns (strip .count) (now sums) (now above) (now below) × (strip .count ≤ length (now lengths)) × (strip .count ≤ length (now spans)) × (strip .count ≤ length (now sizes)) ⌝ }
-    requires { ⌜ Placed strip × (length (now src) ≡ 4 * strip .width * strip .height) × (length (now dest) ≡ 4 * strip .width * strip .height) × (y < strip .height) ⌝ }
-    ensures { λ _. ⌜ LitRow lighting (pointFactor lighting point strip (was src) (was sums) (was above) (was below) (was lengths) (was spans) (was sizes) y) strip y (was dest) (became dest) ⌝ }
+    requires { ⌜ Columns (strip .count) (now sums) (now above) (now below) × (strip .count ≤ length (now spans)) × (strip .count ≤ length (now lengths)) ⌝ }
+    requires { ⌜ Placed strip × (length (now src) ≡ 4 * strip .width * strip .height) × (y < strip .height) ⌝ }
+    ensures { λ _. ⌜ Alongs (lighting .scale) (pointVector (lighting .reflection) point (lighting .scale) strip (was src) y (was spans)) strip (was sums) (was above) (was below) y (was lengths) (became lengths) ⌝ }
+{
+    let reflection = lighting.reflection;
+    let start = start_of(strip, y);
+    let mut i = 0;
+    while i < strip.count {
+        let normal = surface::normal_in(strip, sums, above, below, i, y);
+        let alpha = src[start + 4 * i + 3];
+        let v = light::to_point(
+            point,
+            lighting.scale,
+            alpha,
+            surface::column(strip, i),
+            y as u16,
+        );
+        let vector = light::ray_vector(reflection, v.unit(spans[i]));
+        lengths[i] = pixel::along(lighting.scale, normal, lengths[i], vector);
+        i += 1;
+    }
+}
+
+// The factors of n pixels, in the place of how far their rays go along the normals. The rays' lengths are given.
+fn light_factors(reflection: Reflection, constant: f32, n: usize, sizes: &[f32], alongs: &mut [f32])
+    requires { ⌜ (n ≤ length (now sizes)) × (n ≤ length (now alongs)) ⌝ }
+    ensures { λ _. ⌜ Filled nan (factorsBy reflection constant (was alongs) (was sizes)) n (was alongs) (became alongs) ⌝ }
+{
+    let mut i = 0;
+    while i < n {
+        alongs[i] = pixel::light_factor(reflection, constant, alongs[i], sizes[i]);
+        i += 1;
+    }
+}
+
+// Row y of `dest`, lit by factors.
+fn lit_row(lighting: Lighting, strip: Strip, factors: &[f32], y: usize, dest: &mut [u8])
+    requires { ⌜ Placed strip × (strip .count ≤ length (now factors)) × (length (now dest) ≡ 4 * strip .width * strip .height) × (y < strip .height) ⌝ }
+    ensures { λ _. ⌜ LitRow lighting (λ i. getD (was factors) i nan) strip y (was dest) (became dest) ⌝ }
 {
     let reflection = lighting.reflection;
     let color = lighting.color;
     let start = start_of(strip, y);
-    let left = strip.left;
-    let count = strip.count;
     let mut i = 0;
-    while i < count {
-        let normal = surface::normal_in(strip, sums, above, below, i, y);
-        let alpha = src[start + 4 * i + 3];
-        let v = light::to_point(point, lighting.scale, alpha, left + i, y);
-        let vector = light::ray_vector(reflection, v.unit(spans[i]));
-        let factor = pixel::light_factor(lighting, normal, lengths[i], vector, sizes[i]);
-        let pixel = pixel::lit(reflection, color.red, color.green, color.blue, factor);
+    while i < strip.count {
+        let pixel = pixel::lit(reflection, color.red, color.green, color.blue, factors[i]);
         sheet::pixel::put_pixel(dest, start + 4 * i, pixel);
         i += 1;
     }
 }
 
-// Row y of `dest` becomes that of the result, under a distant light. The rest is work space.
+// Row y of `dest`, lit by rays that go so far along the normals and have these lengths.
+fn light_row(
+    lighting: Lighting,
+    strip: Strip,
+    sizes: &[f32],
+    y: usize,
+    alongs: &mut [f32],
+    dest: &mut [u8],
+)
+    requires { ⌜ Placed strip × (strip .count ≤ length (now sizes)) × (strip .count ≤ length (now alongs)) × (length (now dest) ≡ 4 * strip .width * strip .height) × (y < strip .height) ⌝ }
+    ensures { λ _. ⌜ LitRow lighting (factorsBy (lighting .reflection) (lighting .constant) (was alongs) (was sizes)) strip y (was dest) (became dest) ⌝ }
+{
+    let reflection = lighting.reflection;
+    light_factors(reflection, lighting.constant, strip.count, sizes, alongs);
+    lit_row(lighting, strip, alongs, y, dest);
+}
+
+// Row y of `dest` becomes that of the result, under a distant light: its ray's vector, and that vector's length in each place of
+// `sizes`. The rest is work space.
 pub fn distant_row(
     lighting: Lighting,
-    direction: Vector3,
+    vector: Vector3,
+    sizes: &[f32],
     strip: Strip,
     src: &[u8],
     y: usize,
@@ -228,23 +264,15 @@ pub fn distant_row(
     lengths: &mut [f32],
     dest: &mut [u8],
 )
-    requires { ⌜ lighting .light ≡ LightSource.Distant (direction .x) (direction .y) (direction .z) ⌝ }
+    requires { ⌜ DistantRays lighting vector (now sizes) (strip .count) ⌝ }
     requires { ⌜ Placed strip × (length (now src) ≡ 4 * strip .width * strip .height) × (length (now dest) ≡ 4 * strip .width * strip .height) × (y < strip .height) ⌝ }
-    requires { ⌜ (strip .count + 2 ≤ length (now sums)) × (strip .count + 2 ≤ length (now above)) × (strip .count + 2 ≤ length (now below)) × (strip .count ≤ length (now lengths)) ⌝ }
+    requires { ⌜ (strip .count + 2 ≤ length (now sums)) × (strip .count + 2 ≤ length (now above)) × (strip .count + 2 ≤ length (now below)) × (strip .count ≤ length (now lengths)) × (strip .count ≤ length (now sizes)) ⌝ }
     ensures { λ _. ⌜ RowDone lighting strip (was src) y (was dest) (became dest) ⌝ }
 {
-    slopes(lighting.scale, strip, src, y, sums, above, below, lengths);
-    light_along(
-        lighting,
-        direction,
-        strip,
-        sums,
-        above,
-        below,
-        lengths,
-        y,
-        dest,
-    );
+    let scale = lighting.scale;
+    slopes(scale, strip, src, y, sums, above, below, lengths);
+    along_vector(scale, vector, strip, sums, above, below, y, lengths);
+    light_row(lighting, strip, sizes, y, lengths, dest);
 }
 
 // Row y of `dest` becomes that of the result, under a point. The rest is work space.
@@ -270,7 +298,7 @@ pub fn point_row(
 {
     slopes(lighting.scale, strip, src, y, sums, above, below, lengths);
     point_lengths(lighting, point, strip, src, y, spans, sizes);
-    light_each(
+    along_each(
         lighting,
         point,
         strip,
@@ -278,10 +306,9 @@ pub fn point_row(
         sums,
         above,
         below,
-        lengths,
         spans,
-        sizes,
         y,
-        dest,
+        lengths,
     );
+    light_row(lighting, strip, sizes, y, lengths, dest);
 }

@@ -1,5 +1,6 @@
 // How the surface leans at a pixel, by the alphas round it.
 ghost use mathlib.Core.Path.{_≡_};
+ghost use mathlib.Core.Bool.{cond};
 ghost use Prim.Native.Nat.{ℕ, _+_, _*_, _≤_, _<_};
 ghost use lib.ListN.{length, getD};
 ghost use lib.IntN.{subℕ};
@@ -252,6 +253,21 @@ fn weighted_in(row: &[u8], i: usize) -> u16
     wide(row[i]) + 2 * wide(row[i + 1]) + wide(row[i + 2])
 }
 
+// What a lean counts for at a side of the sheet, or inside. Both are the same all along a row.
+fn chosen(side: bool, at_side: f32, inside: f32) -> f32
+    ensures { λ r. ⌜ r ≡ cond side «at_side» inside ⌝ }
+{
+    if side { at_side } else { inside }
+}
+
+// Column i of a strip, as the sheet counts it.
+pub fn column(strip: Strip, i: usize) -> u16
+    requires { ⌜ Placed strip × (i < strip .count) ⌝ }
+    ensures { λ r. ⌜ r ≡ strip .left + i ⌝ }
+{
+    strip.left as u16 + i as u16
+}
+
 // How the surface leans at the pixel in column i of a strip and in row y, by the columns round it.
 pub fn normal_in(
     strip: Strip,
@@ -264,14 +280,13 @@ pub fn normal_in(
     requires { ⌜ Placed strip × Columns (strip .count) (now sums) (now above) (now below) × (i < strip .count) × (y < strip .height) ⌝ }
     ensures { λ r. ⌜ r ≡ normalIn strip (was sums) (was above) (was below) i y ⌝ }
 {
-    let x = strip.left + i;
-    let side = at_edge(x as u16, strip.width as u16);
+    let side = at_edge(column(strip, i), strip.width as u16);
     let end = at_edge(y as u16, strip.height as u16);
     let lower = weighted_in(below, i);
     let higher = weighted_in(above, i);
     Normal {
-        fx: factor(side, end),
-        fy: factor(end, side),
+        fx: chosen(side, factor(true, end), factor(false, end)),
+        fy: chosen(side, factor(end, true), factor(end, false)),
         x: turned(sums[i + 2], sums[i]),
         y: turned(lower, higher),
     }

@@ -4,10 +4,10 @@ use mathlib.Core.Bool.{cond}
 use lib.Ieee.{Float}
 use Rattle.floats.specs.Constants.{c0}
 use Rattle.floats.specs.Operators.{_⊗_, _⊘_}
+use Rattle.floats.specs.Order.{nearZero}
 use Rattle.sheet.specs.Pixel.{Channels}
 use Rattle.lighting.specs.declared.light.Reflection.{Reflection}
-use Rattle.lighting.specs.declared.light.Ray.{Ray}
-use Rattle.lighting.specs.declared.light.Ray.the-variants.{Light, Half, Short}
+use Rattle.lighting.specs.declared.light.Reflection.the-variants.{Diffuse, Specular}
 use Rattle.lighting.specs.declared.surface.Normal.{Normal}
 use Rattle.lighting.specs.declared.pixel.Color.{Color}
 use Rattle.lighting.specs.declared.vector.Vector3.{Vector3}
@@ -24,11 +24,11 @@ Lit reflection color factor p =
 abbrev pub colour : (red green blue : ℕ) → Color
 colour red green blue = record { red = red; green = green; blue = blue }
 
--- `along` and `lightFactor`, where the normal vector's length is given
+-- `along`, where the normal vector's length is given
 abbrev pub alongBy : (scale : Float) → Normal → (length : Float) → Vector3 → Float
 alongBy scale n length v = cond (flat n) (v .z) (dot (normalVector scale n) v ⊘ length)
 
-abbrev pub factorBy : (scale constant : Float) → Normal → (length : Float) → Ray → Float
-factorBy scale constant n length (Light v) = constant ⊗ alongBy scale n length v
-factorBy scale constant n length (Half h l) = constant ⊗ (alongBy scale n length h ⊘ l)
-factorBy scale constant n length Short = c0
+-- `lightFactor`, where it is given how far the ray's vector goes along the normal, and the vector's length n
+abbrev pub factorAlong : Reflection → (constant a n : Float) → Float
+factorAlong Diffuse constant a n = constant ⊗ a
+factorAlong Specular constant a n = cond (nearZero n) c0 (constant ⊗ (a ⊘ n))

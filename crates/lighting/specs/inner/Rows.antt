@@ -1,5 +1,5 @@
 -- Words of the passes' contracts: work space of one place a column of a strip, and the bytes of one row of it.
-use Prim.Native.Nat.{ℕ, _+_, _*_, _/_, _%_, _<_}
+use Prim.Native.Nat.{ℕ, _+_, _*_, _/_, _%_, _≤_, _<_}
 use mathlib.Core.Path.{_≡_}
 use mathlib.Core.List.{List}
 use lib.ListN.{length, getD}
@@ -7,21 +7,23 @@ use lib.Ieee.{Float, nan}
 use Rattle.sheet.specs.inner.Strips.{Changed, Worked}
 use Rattle.lighting.specs.declared.light.Reflection.{Reflection}
 use Rattle.lighting.specs.declared.light.Ray.{Ray}
+use Rattle.lighting.specs.declared.pixel.Color.{Color}
 use Rattle.lighting.specs.declared.pixel.Lighting.{Lighting}
 use Rattle.lighting.specs.declared.surface.Strip.{Strip}
 use Rattle.lighting.specs.declared.vector.Vector3.{Vector3}
 use Rattle.lighting.specs.Vectors as Vectors
 use Rattle.lighting.specs.Surface.{alphaAt}
-use Rattle.lighting.specs.Light.{toPoint, rayOf, normalVector}
+use Rattle.lighting.specs.Light.{lightVector, toPoint, rayOf, normalVector}
 use Rattle.lighting.specs.Lighting.{litChannel, litAt}
 use Rattle.lighting.specs.inner.Lines.{Columns, normalIn, normalOf}
 use Rattle.lighting.specs.inner.Rays.{fromSurface, unitBy, rayVector, rayBy}
-use Rattle.lighting.specs.inner.Pixels.{factorBy}
+use Rattle.lighting.specs.inner.Pixels.{alongBy, factorAlong}
 
--- the first n elements became g 0, g 1, ..
+-- the first n elements became g 0, g 1, .., and no other element changed; z is what `getD` gives past the end
 pub record Filled {A : Type 0} (z : A) (g : ℕ → A) (n : ℕ) (l l′ : List A) : Type 0 where
   pub same : length l′ ≡ length l
   pub inside : (i : ℕ) → i < n → getD l′ i z ≡ g i
+  pub rest : (i : ℕ) → n ≤ i → getD l′ i z ≡ getD l i z
 
 -- ---- slopes
 -- a strip's columns and the lengths of its normal vectors are those of row y
@@ -50,19 +52,23 @@ toPointFrom l point strip s y i = toPoint (point .x) (point .y) (point .z) (l .s
 abbrev pub toPointIn : Lighting → Vector3 → Strip → List ℕ → (y i : ℕ) → Ray
 toPointIn l point strip s y i = rayOf (l .reflection) (toPointFrom l point strip s y i)
 
--- ---- pixels
--- the factor in column i of a strip and in row y, by the strip's columns and the lengths of its normal vectors
-abbrev pub factorIn : Lighting → Strip → (sums above below : List ℕ) → List Float → ℕ → Ray → ℕ → Float
-factorIn l strip sums above below lengths y ray i = factorBy (l .scale) (l .constant) (normalIn strip sums above below i y) (getD lengths i nan) ray
+-- a distant light's ray has this vector at every pixel, and its length stands in each of the first n places
+abbrev pub DistantRays : Lighting → Vector3 → (sizes : List Float) → (n : ℕ) → Type 0
+DistantRays l v sizes n = (i : ℕ) → i < n → (a x y : ℕ) → rayBy (l .reflection) v (getD sizes i nan) ≡ rayOf (l .reflection) (lightVector (l .light) (l .scale) a x y)
 
--- the same under a point
-abbrev pub pointFactor : Lighting → Vector3 → Strip → (s sums above below : List ℕ) → (lengths spans sizes : List Float) → (y i : ℕ) → Float
-pointFactor l point strip s sums above below lengths spans sizes y i =
-    factorIn l strip sums above below lengths y (pointRay l point strip s y spans sizes i) i
+-- ---- pixels
+-- the lengths of the normal vectors of row y gave way to how far the vectors v 0, v 1, .. go along the normals
+abbrev pub Alongs : (scale : Float) → (v : ℕ → Vector3) → Strip → (sums above below : List ℕ) → ℕ → (lengths alongs : List Float) → Type 0
+Alongs scale v strip sums above below y lengths =
+    Filled nan (λ i. alongBy scale (normalIn strip sums above below i y) (getD lengths i nan) (v i)) (strip .count) lengths
+
+-- factor i by that and the rays' lengths
+abbrev pub factorsBy : Reflection → (constant : Float) → (alongs sizes : List Float) → ℕ → Float
+factorsBy reflection constant alongs sizes i = factorAlong reflection constant (getD alongs i nan) (getD sizes i nan)
 
 -- byte j of pixels that are lit by factors
-abbrev pub rowBy : Lighting → (ℕ → Float) → ℕ → ℕ
-rowBy l f j = litChannel (l .reflection) (l .color) (f (j / 4)) (j % 4)
+abbrev pub rowBy : Reflection → Color → (ℕ → Float) → ℕ → ℕ
+rowBy reflection color f j = litChannel reflection color (f (j / 4)) (j % 4)
 
 -- ---- one row of a strip
 -- where it begins
@@ -71,7 +77,7 @@ startOf strip y = 4 * (y * strip .width + strip .left)
 
 -- its bytes became those
 abbrev pub LitRow : Lighting → (ℕ → Float) → Strip → ℕ → (d d′ : List ℕ) → Type 0
-LitRow l f strip y d d′ = Changed 0 (rowBy l f) (startOf strip y) (4 * strip .count) d d′
+LitRow l f strip y d d′ = Changed 0 (rowBy (l .reflection) (l .color) f) (startOf strip y) (4 * strip .count) d d′
 
 -- its bytes became the result's
 abbrev pub RowDone : Lighting → Strip → List ℕ → ℕ → (d d′ : List ℕ) → Type 0

@@ -1,17 +1,10 @@
 -- The code is the formula, in its order.
 use borrow.Author.Needs.{needs}
-use borrow.Author.Needs.{needs}
 use Rattle.lighting.proofs.light.to_point.Statement.{statement}
 use Rattle.lighting.proofs.light.to_point.Tie as tie
 
 normalized-requires : tie.Need-normalized-requires
 normalized-requires c κs = search needs
-
-cast-column : tie.Need-cast-column
-cast-column c = search needs
-
-cast-row : tie.Need-cast-row
-cast-row c = search needs
 
 int-to-float-nx : tie.Need-int-to-float-nx
 int-to-float-nx c = search needs
@@ -27,12 +20,4 @@ returns c = rw (c .before .before .before .normalized .ensures) at (c .sub .ensu
 
 pub to-point-spec : {M : Type 1} → statement M
 to-point-spec =
-    tie.close
-    (tie.spec
-    normalized-requires
-    cast-column
-    cast-row
-    int-to-float-nx
-    int-to-float-ny
-    sub-requires
-    returns)
+    tie.close (tie.spec normalized-requires int-to-float-nx int-to-float-ny sub-requires returns)

@@ -1,12 +1,8 @@
 -- Each reflection has its formula; a short half vector gives no light.
 use borrow.Author.Needs.{needs}
 use mathlib.Core.Path.{sym, _∙_}
-use borrow.Author.Needs.{needs}
 use Rattle.lighting.proofs.pixel.light_factor.Statement.{statement}
 use Rattle.lighting.proofs.pixel.light_factor.Tie as tie
-
-along-requires : tie.Need-along-requires
-along-requires c κs = search needs
 
 enum-told : tie.Need-enum-told
 enum-told c = search needs
@@ -18,17 +14,14 @@ near-zero-requires : tie.Need-near-zero-requires
 near-zero-requires c κs = search needs
 
 returns : tie.Need-returns
-returns c = rw (c .before .enum-told .given .1, c .before .before .before .along .ensures)
+returns c = rw (c .enum-told .given .1)
 
 returns-2 : tie.Need-returns-2
 returns-2 c = rw (c .before .before .enum-told2 .given .1, sym (c .before .near-zero .ensures) ∙ c .if1 .taken)
 
 returns-3 : tie.Need-returns-3
-returns-3 c =
-    let the-along = c .before .before .before .before .before .along in
-    rw (c .before .before .before .enum-told2 .given .1, sym (c .before .before .near-zero .ensures) ∙ c .before .if1 .left, the-along .ensures)
+returns-3 c = rw (c .before .before .enum-told2 .given .1, sym (c .before .near-zero .ensures) ∙ c .if1 .left)
 
 pub light-factor-spec : {M : Type 1} → statement M
 light-factor-spec =
-    tie.close
-    (tie.spec along-requires enum-told enum-told-2 near-zero-requires returns returns-2 returns-3)
+    tie.close (tie.spec enum-told enum-told-2 near-zero-requires returns returns-2 returns-3)

@@ -1,18 +1,23 @@
--- A distant light's vector is the same at every pixel.
+-- A distant light's ray is the same at every pixel.
 use borrow.Author.Needs.{needs}
-use Rattle.lighting.proofs.LitRows.{distant-lit}
+use Rattle.lighting.proofs.LitRows.{row-done}
 use Rattle.lighting.proofs.rows.distant_row.Statement.{statement}
 use Rattle.lighting.proofs.rows.distant_row.Tie as tie
 
 slopes-requires : tie.Need-slopes-requires
 slopes-requires c κs = search needs
 
-light-along-requires : tie.Need-light-along-requires
-light-along-requires c κs =
-    let the-slopes = c .before .before .before .before .before .before .before .before .before .before .before .before .before .slopes in
+along-vector-requires : tie.Need-along-vector-requires
+along-vector-requires c κs =
     let p = c .before .before .before .before .before .before .before .before .before .before .before .before .before .before .before .before .before .before .before .before .before .before .before .before .pre .1 in
     let lengths = p .1 .3 in
-    ((the-slopes .ensures .columns, search needs), (p .0 .0, p .0 .2, p .0 .3))
+    (p .0 .0, c .before .before .before .before .before .before .before .before .before .before .before .before .slopes .ensures .columns, p .0 .3, search needs)
+
+light-row-requires : tie.Need-light-row-requires
+light-row-requires c κs =
+    let p = c .before .before .before .before .before .before .before .before .before .before .before .before .before .before .before .before .before .before .before .before .before .before .before .before .before .before .before .before .before .pre .1 in
+    let lengths = p .1 .3 in
+    (p .0 .0, p .1 .4, search needs, p .0 .2, p .0 .3)
 
 same-length : tie.Need-same-length
 same-length c = search needs
@@ -31,17 +36,17 @@ same-length-5 c = search needs
 
 returns : tie.Need-returns
 returns c =
-    let the-slopes = c .before .before .before .before .before .before .before .before .before .before .before .before .before .before .before .before .slopes in
-    let a = c .before .before .before .before .before .before .before .before .before .before .before .before .before .before .before .before .before .before .before .before .before .before .before .before .before .before .before .args in
-    let p = c .before .before .before .before .before .before .before .before .before .before .before .before .before .before .before .before .before .before .before .before .before .before .before .before .before .before .before .pre in
-    distant-lit (a .lighting) (a .strip) (a .src .now) (a .y) (p .1 .0 .0) (the-slopes .ensures) (a .direction) (p .0) (c .before .before .light-along .ensures)
+    let a = c .before .before .before .before .before .before .before .before .before .before .before .before .before .before .before .before .before .before .before .before .before .before .before .before .before .before .before .before .before .before .before .before .before .before .args in
+    let p = c .before .before .before .before .before .before .before .before .before .before .before .before .before .before .before .before .before .before .before .before .before .before .before .before .before .before .before .before .before .before .before .before .before .before .pre in
+    row-done (a .lighting) (a .strip) (a .src .now) (a .y) (p .1 .0 .0) (c .before .before .before .before .before .before .before .before .before .before .before .before .before .before .before .before .before .before .before .before .before .before .slopes .ensures) (λ i. a .vector) (a .sizes .now) (λ i h. p .0 i h _ _ _) (c .before .before .before .before .before .before .before .before .before .along-vector .ensures) (c .before .before .before .before .light-row .ensures)
 
 pub distant-row-spec : {M : Type 1} → statement M
 distant-row-spec =
     tie.close
     (tie.spec
     slopes-requires
-    light-along-requires
+    along-vector-requires
+    light-row-requires
     same-length
     same-length-2
     same-length-3

@@ -62,8 +62,11 @@ shared-slice-read-alpha c =
     let z = along-inside (a .strip) (a .y) _ e (p .0) (p .2) (the-loop .i) (c .before .if1 .taken) in
     search needs
 
-add-to-point : tie.Need-add-to-point Inv-loop μ-loop
-add-to-point c = search needs
+column-requires : tie.Need-column-requires Inv-loop μ-loop
+column-requires c κs = search needs
+
+cast-to-point : tie.Need-cast-to-point Inv-loop μ-loop
+cast-to-point c = search needs
 
 to-point-requires : tie.Need-to-point-requires Inv-loop μ-loop
 to-point-requires c κs = search needs
@@ -102,15 +105,12 @@ loop-less c = search needs
 
 loop-again : tie.Need-loop-again Inv-loop μ-loop
 loop-again c =
-    let the-loop = c .before .before .before .before .before .before .before .before .before .loop in
-    let the-to-point = c .before .before .before .before .to-point in
-    let the-start-of = c .before .before .before .before .before .before .before .before .before .before .start-of in
     let a = c .before .before .before .before .before .before .before .before .before .before .before .before .before .before .args in
     let taken = c .before .before .before .before .before .before .before .if1 .taken in
     let room = c .before .before .before .before .before .before .before .before .before .before .before .before .before .before .pre .4 in
-    let r = the-loop .inv .1 in
+    let r = c .before .before .before .before .before .before .before .before .before .loop .inv .1 in
     let l = r .same in
-    (search needs, filled-more _ _ _ _ r (omega arith) (rw (c .before .half-vector .ensures, c .before .before .unit .ensures, the-to-point .ensures, alpha-along (a .strip) (a .y) _ (the-start-of .ensures) (a .src .now) (the-loop .i)) at (c .dot .ensures)))
+    (search needs, filled-more _ _ _ _ r (omega arith) (rw (c .before .half-vector .ensures, c .before .before .unit .ensures, c .before .before .before .before .to-point .ensures, c .before .before .before .before .before .column .ensures, alpha-along (a .strip) (a .y) _ (c .before .before .before .before .before .before .before .before .before .before .start-of .ensures) (a .src .now) (c .before .before .before .before .before .before .before .before .before .loop .i)) at (c .dot .ensures)))
 
 same-length : tie.Need-same-length Inv-loop μ-loop
 same-length c = search needs
@@ -134,7 +134,8 @@ halves-spec =
     add-alpha
     add-alpha-2
     shared-slice-read-alpha
-    add-to-point
+    column-requires
+    cast-to-point
     to-point-requires
     mul-unit
     shared-slice-read-unit

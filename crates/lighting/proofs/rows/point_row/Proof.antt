@@ -1,6 +1,7 @@
 -- A point's rays are made of their distances and lengths.
 use borrow.Author.Needs.{needs}
-use Rattle.lighting.proofs.LitRows.{point-lit}
+use Rattle.lighting.specs.inner.Rows.{pointVector}
+use Rattle.lighting.proofs.LitRows.{row-done}
 use Rattle.lighting.proofs.rows.point_row.Statement.{statement}
 use Rattle.lighting.proofs.rows.point_row.Tie as tie
 
@@ -8,20 +9,21 @@ slopes-requires : tie.Need-slopes-requires
 slopes-requires c κs = search needs
 
 point-lengths-requires : tie.Need-point-lengths-requires
-point-lengths-requires c κs =
-    let p = c .before .before .before .before .before .before .before .before .before .before .before .before .before .before .before .before .before .before .before .before .before .before .before .pre .1 in
-    let spans = p .1 .1 .1 in
-    let sizes = p .1 .1 .2 in
-    (p .0 .0, p .0 .1, p .0 .3, search needs, search needs)
+point-lengths-requires c κs = search needs
 
-light-each-requires : tie.Need-light-each-requires
-light-each-requires c κs =
-    let the-slopes = c .before .before .before .before .before .before .before .before .before .before .before .before .before .before .before .before .before .before .before .before .before .before .slopes in
-    let p = c .before .before .before .before .before .before .before .before .before .before .before .before .before .before .before .before .before .before .before .before .before .before .before .before .before .before .before .before .before .before .before .before .before .before .before .pre .1 in
+along-each-requires : tie.Need-along-each-requires
+along-each-requires c κs =
+    let p = c .before .before .before .before .before .before .before .before .before .before .before .before .before .before .before .before .before .before .before .before .before .before .before .before .before .before .before .before .before .before .before .before .before .pre .1 in
     let lengths = p .1 .1 .0 in
     let spans = p .1 .1 .1 in
+    ((c .before .before .before .before .before .before .before .before .before .before .before .before .before .before .before .before .before .before .before .before .slopes .ensures .columns, search needs, search needs), (p .0 .0, p .0 .1, p .0 .3))
+
+light-row-requires : tie.Need-light-row-requires
+light-row-requires c κs =
+    let p = c .before .before .before .before .before .before .before .before .before .before .before .before .before .before .before .before .before .before .before .before .before .before .before .before .before .before .before .before .before .before .before .before .before .before .before .before .before .before .before .pre .1 in
+    let lengths = p .1 .1 .0 in
     let sizes = p .1 .1 .2 in
-    ((the-slopes .ensures .columns, search needs, search needs, search needs), p .0)
+    (p .0 .0, search needs, search needs, p .0 .2, p .0 .3)
 
 same-length : tie.Need-same-length
 same-length c = search needs
@@ -46,11 +48,11 @@ same-length-7 c = search needs
 
 returns : tie.Need-returns
 returns c =
-    let the-slopes = c .before .before .before .before .before .before .before .before .before .before .before .before .before .before .before .before .before .before .before .before .before .before .before .before .before .slopes in
-    let a = c .before .before .before .before .before .before .before .before .before .before .before .before .before .before .before .before .before .before .before .before .before .before .before .before .before .before .before .before .before .before .before .before .before .before .before .before .before .before .args in
-    let p = c .before .before .before .before .before .before .before .before .before .before .before .before .before .before .before .before .before .before .before .before .before .before .before .before .before .before .before .before .before .before .before .before .before .before .before .before .before .before .pre in
-    let l = c .before .before .before .before .before .before .before .before .before .before .before .before .before .before .point-lengths in
-    point-lit (a .lighting) (a .strip) (a .src .now) (a .y) (p .1 .0 .0) (the-slopes .ensures) (a .point) (l .last .1 .1 .1 .1 .1 .0) (l .last .1 .1 .1 .1 .1 .1 .0) (p .0) (l .ensures) (c .before .before .light-each .ensures)
+    let a = c .before .before .before .before .before .before .before .before .before .before .before .before .before .before .before .before .before .before .before .before .before .before .before .before .before .before .before .before .before .before .before .before .before .before .before .before .before .before .before .before .before .before .before .before .args in
+    let t = a .lighting in
+    let p = c .before .before .before .before .before .before .before .before .before .before .before .before .before .before .before .before .before .before .before .before .before .before .before .before .before .before .before .before .before .before .before .before .before .before .before .before .before .before .before .before .before .before .before .before .pre in
+    let l = c .before .before .before .before .before .before .before .before .before .before .before .before .before .before .before .before .before .before .before .before .point-lengths in
+    row-done t (a .strip) (a .src .now) (a .y) (p .1 .0 .0) (c .before .before .before .before .before .before .before .before .before .before .before .before .before .before .before .before .before .before .before .before .before .before .before .before .before .before .before .before .before .before .before .slopes .ensures) (pointVector (t .reflection) (a .point) (t .scale) (a .strip) (a .src .now) (a .y) (l .last .1 .1 .1 .1 .1 .0)) (l .last .1 .1 .1 .1 .1 .1 .0) (λ i h. rw (p .0) (l .ensures i h)) (c .before .before .before .before .before .before .before .before .before .before .along-each .ensures) (c .before .before .before .before .light-row .ensures)
 
 pub point-row-spec : {M : Type 1} → statement M
 point-row-spec =
@@ -58,7 +60,8 @@ point-row-spec =
     (tie.spec
     slopes-requires
     point-lengths-requires
-    light-each-requires
+    along-each-requires
+    light-row-requires
     same-length
     same-length-2
     same-length-3
