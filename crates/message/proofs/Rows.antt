@@ -1,11 +1,11 @@
 -- By the cases of its work, a step is its code, its row and its lists; a range has no more numbers than it says.
-use Prim.Native.Nat.{ℕ, _/_, _%_, _≤_}
+use Prim.Native.Nat.{ℕ, _≤_}
 use mathlib.Core.Path.{_≡_, refl}
 use mathlib.Core.Bool.{Bool, true, false, cond}
 use mathlib.Core.List.{List, [], _∷_, _++_}
 use native.Mathlib.Omega.{arith}
 use lib.ListN.{length, take, drop, length-take}
-use lib.Ieee.{Float, binary64, toBits}
+use lib.Ieee.{Float}
 use types.Run.{OneOf, miss}
 use denote.Enum.Declared.{tagOf}
 use Rattle.recipe.specs.declared.Work.{Work}
@@ -16,11 +16,7 @@ use Rattle.pool.specs.Pool.{isIn, numbersOf}
 use Rattle.message.specs.Fields.{writeField, write}
 use Rattle.message.specs.Steps.{parts, wordsOf}
 use Rattle.message.specs.Answers.{rangesOf}
-use Rattle.message.specs.inner.Writing.{codeOf, halves, rowOf, listsOf}
-
--- the halves of a double, and what comes after them
-pub halves-same : (x : Float) {a b : ℕ} {l m : List ℕ} → a ≡ toBits binary64 x % 4294967296 → b ≡ toBits binary64 x / 4294967296 → l ≡ m → a ∷ b ∷ l ≡ halves x m
-halves-same x p q e = cc
+use Rattle.message.specs.inner.Writing.{codeOf, rowOf, listsOf}
 
 pub step-words : (pool : List Float) (w : Work) (o : ℕ) → codeOf w ∷ (rowOf w o ++ listsOf pool w) ≡ wordsOf (parts pool w o)
 unfolding wordsOf write writeField

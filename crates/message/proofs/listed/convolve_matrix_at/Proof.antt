@@ -104,7 +104,7 @@ returns-3 c =
     let the-place = c .before .before .before .before .before .before .before .before .before .before .before .before .before .before .place in
     let the-numbers-at = c .before .before .before .before .before .before .before .before .before .before .before .numbers-at in
     let the-kernel-place = c .before .before .before .before .before .before .kernel-place in
-    tail-taken 5 refl _ _ _ (the-pre) (the-block-at .result) (the-block-at .ensures) (the-place .given .1) (kernel-taken _ _ _ (the-numbers-at .result) (the-numbers-at .ensures) (the-kernel-place .given .1) (c .before .before .before .before .block-at2 .result) (c .before .before .before .before .block-at2 .ensures)) _ refl refl (λ vs l g. (rw (g .0, g .1 .0, c .before .before .float-of .ensures, c .before .float-of2 .ensures, c .edge-by .ensures), g .1 .1))
+    tail-taken 5 refl _ _ _ (the-pre) (the-block-at .result) (the-block-at .ensures) (the-place .given .1) (kernel-taken _ _ _ (the-numbers-at .result) (the-numbers-at .ensures) (the-kernel-place .given .1) (c .before .before .before .before .block-at2 .result) (c .before .before .before .before .block-at2 .ensures)) _ refl refl (λ vs l g. (simp (g .0, g .1 .0, c .before .before .float-of .ensures, c .before .float-of2 .ensures, c .edge-by .ensures), g .1 .1))
 
 pub convolve-matrix-at-spec : {M : Type 1} → statement M
 convolve-matrix-at-spec =

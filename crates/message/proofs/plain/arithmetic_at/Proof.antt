@@ -47,7 +47,7 @@ unfolding firsts
 returns c =
     let the-pre = c .before .before .before .before .before .before .before .pre in
     let the-block-at = c .before .before .before .before .before .block-at in
-    plain-taken 4 refl tt (the-block-at .ensures) (the-pre) _ (rw (c .before .before .before .float-of .ensures, c .before .before .float-of2 .ensures, c .before .float-of3 .ensures, c .float-of4 .ensures))
+    plain-taken 4 refl tt (the-block-at .ensures) (the-pre) _ (simp (c .before .before .before .float-of .ensures, c .before .before .float-of2 .ensures, c .before .float-of3 .ensures, c .float-of4 .ensures))
 
 pub arithmetic-at-spec : {M : Type 1} → statement M
 arithmetic-at-spec =

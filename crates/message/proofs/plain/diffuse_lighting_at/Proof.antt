@@ -78,7 +78,7 @@ returns c =
     let the-byte-of2 = c .before .before .before .before .before .before .before .byte-of2 in
     let the-byte-of3 = c .before .before .before .before .before .before .byte-of3 in
     let the-float-of = c .before .before .before .before .before .float-of in
-    plain-taken 8 refl tt (the-block-at .ensures) (the-pre) _ (rw (c .before .before .light-by .ensures, the-float-of .ensures, c .before .before .before .before .float-of2 .ensures, c .before .before .before .float-of3 .ensures, c .before .float-of4 .ensures, c .float-of5 .ensures, the-byte-of .ensures, the-byte-of2 .ensures, the-byte-of3 .ensures))
+    plain-taken 8 refl tt (the-block-at .ensures) (the-pre) _ (simp (c .before .before .light-by .ensures, the-float-of .ensures, c .before .before .before .before .float-of2 .ensures, c .before .before .before .float-of3 .ensures, c .before .float-of4 .ensures, c .float-of5 .ensures, the-byte-of .ensures, the-byte-of2 .ensures, the-byte-of3 .ensures))
 
 pub diffuse-lighting-at-spec : {M : Type 1} → statement M
 diffuse-lighting-at-spec =

@@ -53,7 +53,7 @@ unfolding firsts
 returns c =
     let the-pre = c .before .before .before .before .before .before .before .before .pre in
     let the-block-at = c .before .before .before .before .before .before .block-at in
-    plain-taken 6 refl tt (the-block-at .ensures) (the-pre) _ (rw (c .before .before .before .before .channel-by .ensures, c .before .before .before .channel-by2 .ensures, c .before .before .float-of .ensures, c .before .float-of2 .ensures, c .float-of3 .ensures))
+    plain-taken 6 refl tt (the-block-at .ensures) (the-pre) _ (simp (c .before .before .before .before .channel-by .ensures, c .before .before .before .channel-by2 .ensures, c .before .before .float-of .ensures, c .before .float-of2 .ensures, c .float-of3 .ensures))
 
 pub displacement-map-at-spec : {M : Type 1} → statement M
 displacement-map-at-spec =

@@ -37,7 +37,7 @@ returns : tie.Need-returns
 unfolding firsts
 returns c =
     let the-pre = c .before .before .before .before .before .before .pre in
-    plain-taken 1 refl tt (c .before .before .before .before .block-at .ensures) (the-pre) _ (rw (c .before .before .operator-by .ensures, c .before .float-of .ensures, c .float-of2 .ensures))
+    plain-taken 1 refl tt (c .before .before .before .before .block-at .ensures) (the-pre) _ (simp (c .before .before .operator-by .ensures, c .before .float-of .ensures, c .float-of2 .ensures))
 
 pub morphology-at-spec : {M : Type 1} → statement M
 morphology-at-spec =

@@ -85,7 +85,7 @@ returns c =
     let the-byte-of3 = c .before .before .before .before .before .before .before .byte-of3 in
     let the-float-of = c .before .before .before .before .before .before .float-of in
     let the-float-of2 = c .before .before .before .before .before .float-of2 in
-    plain-taken 9 refl tt (the-block-at .ensures) (the-pre) _ (rw (c .before .before .before .light-by .ensures, the-float-of .ensures, the-float-of2 .ensures, c .before .before .before .before .float-of3 .ensures, c .before .before .float-of4 .ensures, c .before .float-of5 .ensures, c .float-of6 .ensures, the-byte-of .ensures, the-byte-of2 .ensures, the-byte-of3 .ensures))
+    plain-taken 9 refl tt (the-block-at .ensures) (the-pre) _ (simp (c .before .before .before .light-by .ensures, the-float-of .ensures, the-float-of2 .ensures, c .before .before .before .before .float-of3 .ensures, c .before .before .float-of4 .ensures, c .before .float-of5 .ensures, c .float-of6 .ensures, the-byte-of .ensures, the-byte-of2 .ensures, the-byte-of3 .ensures))
 
 pub specular-lighting-at-spec : {M : Type 1} → statement M
 specular-lighting-at-spec =

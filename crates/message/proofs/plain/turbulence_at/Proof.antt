@@ -1,5 +1,5 @@
 -- A row of numbers, of which the step is made.
-use mathlib.Core.Path.{refl}
+use mathlib.Core.Path.{refl, _∙_}
 use borrow.Author.Needs.{needs}
 use mir.Syntax.{w32}
 use mir.ValLaws.{toZ-ofZ}
@@ -87,7 +87,8 @@ returns c =
     let the-block-at = c .before .before .before .before .before .before .before .before .block-at in
     let the-double-of = c .before .before .before .before .before .before .double-of in
     let the-double-of2 = c .before .before .before .before .before .double-of2 in
-    plain-taken 7 refl tt (the-block-at .ensures) (the-pre) _ (rw (the-double-of .ensures, the-double-of2 .ensures, c .before .before .before .before .double-of3 .ensures, c .before .before .before .double-of4 .ensures, c .before .before .double-of5 .ensures, c .before .double-of6 .ensures, toZ-ofZ w32 (c .seed-of .result) (record { sfits = c .seed-of .ok }), c .seed-of .ensures))
+    let seed = toZ-ofZ w32 (c .seed-of .result) (record { sfits = c .seed-of .ok }) ∙ c .seed-of .ensures in
+    plain-taken 7 refl tt (the-block-at .ensures) (the-pre) _ (simp (the-double-of .ensures, the-double-of2 .ensures, c .before .before .before .before .double-of3 .ensures, c .before .before .before .double-of4 .ensures, c .before .before .double-of5 .ensures, c .before .double-of6 .ensures, seed))
 
 pub turbulence-at-spec : {M : Type 1} → statement M
 turbulence-at-spec =

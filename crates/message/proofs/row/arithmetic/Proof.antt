@@ -16,7 +16,7 @@ bits-of-requires-4 : tie.Need-bits-of-requires-4
 bits-of-requires-4 c κs = search needs
 
 returns : tie.Need-returns
-returns c = record { few = search needs; held = cc }
+returns c = record { few = search needs; held = simp (c .bits-of4 .ensures, c .before .bits-of3 .ensures, c .before .before .bits-of2 .ensures, c .before .before .before .bits-of .ensures) }
 
 pub arithmetic-spec : {M : Type 1} → statement M
 arithmetic-spec =

@@ -19,7 +19,9 @@ bits-of-requires-3 : tie.Need-bits-of-requires-3
 bits-of-requires-3 c κs = search needs
 
 returns : tie.Need-returns
-returns c = record { few = search needs; held = cc }
+returns c =
+    let x4 = c .before .before .before .before in
+    record { few = search needs; held = simp (c .bits-of3 .ensures, c .before .bits-of2 .ensures, c .before .before .bits-of .ensures, c .before .before .before .channel-code2 .ensures, x4 .channel-code .ensures) }
 
 pub displacement-map-spec : {M : Type 1} → statement M
 displacement-map-spec =

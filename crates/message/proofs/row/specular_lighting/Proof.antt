@@ -34,7 +34,10 @@ bits-of-requires-6 : tie.Need-bits-of-requires-6
 bits-of-requires-6 c κs = search needs
 
 returns : tie.Need-returns
-returns c = record { few = search needs; held = cc }
+returns c =
+    let x4 = c .before .before .before .before in
+    let x8 = x4 .before .before .before .before in
+    record { few = search needs; held = simp (c .bits-of6 .ensures, c .before .bits-of5 .ensures, c .before .before .bits-of4 .ensures, c .before .before .before .wide3 .ensures, x4 .wide2 .ensures, x4 .before .wide .ensures, x4 .before .before .bits-of3 .ensures, x4 .before .before .before .bits-of2 .ensures, x8 .bits-of .ensures, x8 .before .light-of .ensures) }
 
 pub specular-lighting-spec : {M : Type 1} → statement M
 specular-lighting-spec =

@@ -1,10 +1,7 @@
 -- The numbers are what the calls gave.
 use borrow.Author.Needs.{needs}
-use mathlib.Core.Path.{ap}
-use mathlib.Core.List.{_∷_}
 use mir.Syntax.{w32}
 use mir.ValLaws.{toZ-ofZ}
-use Rattle.message.proofs.Rows.{halves-same}
 use Rattle.message.proofs.row.turbulence.Statement.{statement}
 use Rattle.message.proofs.row.turbulence.Tie as tie
 
@@ -61,7 +58,7 @@ returns c =
     let args = x1 .before .before .args in
     let t = args .t in
     let seed = toZ-ofZ w32 (t .seed) (record { sfits = c .before .before .struct-told .given .1 .1 .1 .1 .1 .1 .1 .0 .1 }) in
-    record { few = search needs; held = ap (_∷_ (args .output)) (halves-same (t .«offset_x») (x1 .before .low-half .ensures) (x1 .high-half .ensures) (halves-same (t .«offset_y») (x2 .before .low-half2 .ensures) (x2 .high-half2 .ensures) (halves-same (t .sx) (x3 .before .low-half3 .ensures) (x3 .high-half3 .ensures) (halves-same (t .sy) (x4 .before .low-half4 .ensures) (x4 .high-half4 .ensures) (halves-same (t .«base_frequency_x») (x5 .before .low-half5 .ensures) (x5 .high-half5 .ensures) (halves-same (t .«base_frequency_y») (x6 .before .low-half6 .ensures) (x6 .high-half6 .ensures) (cc (c .before .bits-of-seed .ensures, c .yes-code .ensures, seed)))))))) }
+    record { few = search needs; held = simp (x1 .before .low-half .ensures, x1 .high-half .ensures, x2 .before .low-half2 .ensures, x2 .high-half2 .ensures, x3 .before .low-half3 .ensures, x3 .high-half3 .ensures, x4 .before .low-half4 .ensures, x4 .high-half4 .ensures, x5 .before .low-half5 .ensures, x5 .high-half5 .ensures, x6 .before .low-half6 .ensures, x6 .high-half6 .ensures, c .before .bits-of-seed .ensures, c .yes-code .ensures, seed) }
 
 pub turbulence-spec : {M : Type 1} → statement M
 turbulence-spec =

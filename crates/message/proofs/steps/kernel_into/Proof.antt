@@ -45,7 +45,7 @@ returns c =
     let list = c .before .before .before .before .before .before .write-numbers .ensures in
     let fits = c .before .before .before .before .before .before .before .before .before .before .before .before .before .before .before .before .good .1 .1 .0 in
     let rest = c .before .before .write-block .ensures in
-    wrote-as (wrote-then (wrote 21474836480 (list .0) (omega (arith, list .1))) (wrote 80 (rest .0) (rest .1))) (cc) (omega arith)
+    wrote-as (wrote-then (wrote 21474836480 (list .0) (omega (arith, list .1))) (wrote 80 (rest .0) (rest .1))) (simp (c .before .before .before .before .before .before .before .part .ensures, c .before .before .before .before .before .before .before .before .before .before .before .before .bits-of .ensures, c .before .before .before .before .before .before .before .before .before .before .before .bits-of2 .ensures, c .before .before .before .before .before .before .before .before .before .before .edge-code .ensures, c .before .before .before .before .before .before .before .before .before .yes-code .ensures)) (omega arith)
 
 pub kernel-into-spec : {M : Type 1} → statement M
 kernel-into-spec =

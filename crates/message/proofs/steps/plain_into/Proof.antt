@@ -26,7 +26,7 @@ returns c =
     let the-bits-of = c .before .before .before .before .before .bits-of in
     let args = the-args in
     let block = c .before .before .write-block .ensures in
-    wrote-as (wrote 80 (block .0) (block .1)) (take-append-le (args .count) (args .kind ∷ the-bits-of .result ∷ c .before .before .before .before .bits-of2 .result ∷ []) _ (omega arith) ∙ (cc (the-bits-of .ensures, c .before .before .before .before .bits-of2 .ensures))) (omega arith)
+    wrote-as (wrote 80 (block .0) (block .1)) (take-append-le (args .count) (args .kind ∷ the-bits-of .result ∷ c .before .before .before .before .bits-of2 .result ∷ []) _ (omega arith) ∙ (simp (the-bits-of .ensures, c .before .before .before .before .bits-of2 .ensures))) (omega arith)
 
 pub plain-into-spec : {M : Type 1} → statement M
 plain-into-spec =
