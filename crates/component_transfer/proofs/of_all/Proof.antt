@@ -15,7 +15,7 @@ together-requires-3 c κs = search needs
 
 returns : tie.Need-returns
 unfolding functionsAnswer
-returns c = cc (c .before .before .together .ensures, c .before .together2 .ensures, c .together3 .ensures)
+returns c = simp (c .before .before .together .ensures, c .before .together2 .ensures, c .together3 .ensures)
 
 pub of-all-spec : {M : Type 1} → statement M
 of-all-spec =

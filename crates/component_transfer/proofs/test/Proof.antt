@@ -19,7 +19,7 @@ of-all-requires : tie.Need-of-all-requires
 of-all-requires c κs = search needs
 
 returns : tie.Need-returns
-returns c = cc (c .before .before .before .before .test-function .ensures, c .before .before .before .test-function2 .ensures, c .before .before .test-function3 .ensures, c .before .test-function4 .ensures, c .of-all .ensures)
+returns c = simp (c .before .before .before .before .test-function .ensures, c .before .before .before .test-function2 .ensures, c .before .before .test-function3 .ensures, c .before .test-function4 .ensures, c .of-all .ensures)
 
 pub test-spec : {M : Type 1} → statement M
 test-spec =

@@ -32,7 +32,7 @@ returns c =
     let green = c .before .before .before .before .before .green in
     let normalized = c .before .before .before .before .before .before .normalized in
     let red = c .before .before .before .before .before .before .before .red in
-    cc (normalized .ensures, c .before .before .before .before .normalized2 .ensures, c .before .before .normalized3 .ensures, c .normalized4 .ensures, red .ensures, green .ensures, c .before .before .before .blue .ensures, c .before .alpha .ensures)
+    simp (normalized .ensures, c .before .before .before .before .normalized2 .ensures, c .before .before .normalized3 .ensures, c .normalized4 .ensures, red .ensures, green .ensures, c .before .before .before .blue .ensures, c .before .alpha .ensures)
 
 pub to-normalized-components-spec : {M : Type 1} → statement M
 to-normalized-components-spec =

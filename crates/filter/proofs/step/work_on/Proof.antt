@@ -97,7 +97,7 @@ same-length-2 c = search needs
 returns : tie.Need-returns
 returns c =
     let is = c .before .before .before .before .before .before .before .before .work .given .1 in
-    rw is (λ get got. c .before .before .before .before .morphology-into .ensures ∙ ap (morphed _ _ _ _ _) (sym got))
+    rw is (λ get got. rw (c .before .before .before .before .morphology-into .ensures, got))
 
 same-length-3 : tie.Need-same-length-3
 same-length-3 c = search needs
@@ -113,7 +113,7 @@ same-length-4 c = search needs
 returns-3 : tie.Need-returns-3
 returns-3 c =
     let is = c .before .before .before .before .before .work3 .given .1 in
-    rw is (λ get got. cc (c .before .before .matrix-into .ensures, got))
+    rw is (λ get got. rw (c .before .before .matrix-into .ensures, got))
 
 same-length-5 : tie.Need-same-length-5
 same-length-5 c = search needs
@@ -121,7 +121,7 @@ same-length-5 c = search needs
 returns-4 : tie.Need-returns-4
 returns-4 c =
     let is = c .before .before .before .before .before .work4 .given .1 in
-    rw is (λ get got. c .before .before .transfer-into .ensures ∙ ap (transferred _ _ _ _) (sym got))
+    rw is (λ get got. rw (c .before .before .transfer-into .ensures, got))
 
 same-length-6 : tie.Need-same-length-6
 same-length-6 c = search needs
@@ -132,7 +132,7 @@ same-length-7 c = search needs
 returns-5 : tie.Need-returns-5
 returns-5 c =
     let is = c .before .before .before .before .before .before .before .before .work5 .given .1 in
-    rw is (λ get got. c .before .before .before .before .convolve-into .ensures ∙ ap (convolved _ _ _ _) (sym got))
+    rw is (λ get got. rw (c .before .before .before .before .convolve-into .ensures, got))
 
 same-length-8 : tie.Need-same-length-8
 same-length-8 c = search needs
@@ -156,7 +156,7 @@ same-length-10 c = search needs
 returns-8 : tie.Need-returns-8
 returns-8 c =
     let is = c .before .before .before .before .before .work8 .given .1 in
-    rw is (λ get got. c .before .before .diffuse-into .ensures ∙ ap (lit _ _ _) (sym got))
+    rw is (λ get got. rw (c .before .before .diffuse-into .ensures, got))
 
 same-length-11 : tie.Need-same-length-11
 same-length-11 c = search needs
@@ -164,7 +164,7 @@ same-length-11 c = search needs
 returns-9 : tie.Need-returns-9
 returns-9 c =
     let is = c .before .before .before .before .before .work9 .given .1 in
-    rw is (λ get got. c .before .before .specular-into .ensures ∙ ap (lit _ _ _) (sym got))
+    rw is (λ get got. rw (c .before .before .specular-into .ensures, got))
 
 pub work-on-spec : {M : Type 1} → statement M
 work-on-spec =

@@ -95,7 +95,7 @@ returns c = rw (c .before .before .before .work .given .1) (c .of-premultiplied 
 returns-2 : tie.Need-returns-2
 returns-2 c =
     let the-work2 = c .before .before .before .before .before .work2 in
-    rw (the-work2 .given .1) (cc (c .of-premultiplied3 .ensures, c .before .of-premultiplied2 .ensures, c .before .before .before .content-in2 .ensures, c .before .before .content-in3 .ensures))
+    rw (the-work2 .given .1) (simp (c .of-premultiplied3 .ensures, c .before .of-premultiplied2 .ensures, c .before .before .before .content-in2 .ensures, c .before .before .content-in3 .ensures))
 
 returns-3 : tie.Need-returns-3
 returns-3 c = rw (c .before .before .before .work3 .given .1) (c .of-straight .ensures ∙ ap (λ x. ofStraight x _) (c .before .content-in4 .ensures))
@@ -104,10 +104,10 @@ returns-4 : tie.Need-returns-4
 returns-4 c = rw (c .before .before .before .work4 .given .1) (c .of-straight2 .ensures ∙ ap (λ x. ofStraight x _) (c .before .content-in5 .ensures))
 
 returns-5 : tie.Need-returns-5
-returns-5 c = rw (c .before .before .before .work5 .given .1) (cc (c .convolved .ensures, c .before .content-in6 .ensures))
+returns-5 c = rw (c .before .before .before .work5 .given .1) (simp (c .convolved .ensures, c .before .content-in6 .ensures))
 
 returns-6 : tie.Need-returns-6
-returns-6 c = rw (c .before .before .before .before .work6 .given .1) (cc (c .of-straight3 .ensures, c .before .before .content-in7 .ensures, c .before .content-in8 .ensures))
+returns-6 c = rw (c .before .before .before .before .work6 .given .1) (simp (c .of-straight3 .ensures, c .before .before .content-in7 .ensures, c .before .content-in8 .ensures))
 
 returns-7 : tie.Need-returns-7
 returns-7 c = rw (c .enum-told .given .1)

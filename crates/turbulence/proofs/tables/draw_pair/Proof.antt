@@ -21,7 +21,12 @@ pair-length-requires c κs = search needs
 
 returns : tie.Need-returns
 unfolding gradientX gradientY
-returns c = (cc, cc, cc, search needs)
+returns c =
+    let first = c .before .before .before .before .random .ensures in
+    let second = c .before .before .before .random2 .ensures in
+    let u = c .before .before .component-of .ensures in
+    let v = c .before .component-of2 .ensures in
+    (simp (c .pair-length .ensures, u, v, second .0, first .0), simp (c .pair-length .ensures, u, v, second .0, first .0), simp (second .0, first .0), search needs)
 
 pub draw-pair-spec : {M : Type 1} → statement M
 draw-pair-spec =
