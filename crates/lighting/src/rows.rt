@@ -16,7 +16,7 @@ ghost use Rattle.lighting.specs.Vectors as Vectors;
 ghost use Rattle.lighting.specs.Light.{normalVector};
 ghost use Rattle.lighting.specs.inner.Lines.{Placed, Columns, normalIn};
 ghost use Rattle.lighting.specs.inner.Rays.{square};
-ghost use Rattle.lighting.specs.inner.Rows.{Filled, Sloped, startOf, DistantRays, Alongs, factorsBy, LitRow, RowDone, fromRow, pointVector, pointRay, toPointIn};
+ghost use Rattle.lighting.specs.inner.Rows.{Filled, Sloped, startOf, DistantRays, Alongs, factorsBy, LitRow, RowDone, fromRow, pointVector, vectorTo, pointRay, toPointIn};
 
 // Where a strip's bytes of row y begin.
 fn start_of(strip: Strip, y: usize) -> usize
@@ -183,7 +183,7 @@ fn along_each(
 )
     requires { ⌜ Columns (strip .count) (now sums) (now above) (now below) × (strip .count ≤ length (now spans)) × (strip .count ≤ length (now lengths)) ⌝ }
     requires { ⌜ Placed strip × (length (now src) ≡ 4 * strip .width * strip .height) × (y < strip .height) ⌝ }
-    ensures { λ _. ⌜ Alongs (lighting .scale) (pointVector (lighting .reflection) point (lighting .scale) strip (was src) y (was spans)) strip (was sums) (was above) (was below) y (was lengths) (became lengths) ⌝ }
+    ensures { λ _. ⌜ Alongs (lighting .scale) (vectorTo lighting point strip (was src) y (was spans)) strip (was sums) (was above) (was below) y (was lengths) (became lengths) ⌝ }
 {
     let reflection = lighting.reflection;
     let start = start_of(strip, y);
@@ -266,7 +266,8 @@ pub fn distant_row(
 )
     requires { ⌜ DistantRays lighting vector (now sizes) (strip .count) ⌝ }
     requires { ⌜ Placed strip × (length (now src) ≡ 4 * strip .width * strip .height) × (length (now dest) ≡ 4 * strip .width * strip .height) × (y < strip .height) ⌝ }
-    requires { ⌜ (strip .count + 2 ≤ length (now sums)) × (strip .count + 2 ≤ length (now above)) × (strip .count + 2 ≤ length (now below)) × (strip .count ≤ length (now lengths)) × (strip .count ≤ length (now sizes)) ⌝ }
+    requires { ⌜ (strip .count + 2 ≤ length (now sums)) × (strip .count + 2 ≤ length (now above)) × (strip .count + 2 ≤ length (now below)) ⌝ }
+    requires { ⌜ (strip .count ≤ length (now lengths)) × (strip .count ≤ length (now sizes)) ⌝ }
     ensures { λ _. ⌜ RowDone lighting strip (was src) y (was dest) (became dest) ⌝ }
 {
     let scale = lighting.scale;

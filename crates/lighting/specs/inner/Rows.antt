@@ -41,9 +41,13 @@ fromRow point scale strip s y i = fromSurface point scale (alphaAt (strip .width
 abbrev pub pointVector : Reflection → Vector3 → (scale : Float) → Strip → List ℕ → ℕ → List Float → ℕ → Vector3
 pointVector reflection point scale strip s y spans i = rayVector reflection (unitBy (fromRow point scale strip s y i) (getD spans i nan))
 
+-- the same for a lighting
+abbrev pub vectorTo : Lighting → Vector3 → Strip → List ℕ → ℕ → List Float → ℕ → Vector3
+vectorTo l point strip s y spans = pointVector (l .reflection) point (l .scale) strip s y spans
+
 -- the ray, where the vectors' lengths are given too
 abbrev pub pointRay : Lighting → Vector3 → Strip → List ℕ → ℕ → (spans sizes : List Float) → ℕ → Ray
-pointRay l point strip s y spans sizes i = rayBy (l .reflection) (pointVector (l .reflection) point (l .scale) strip s y spans i) (getD sizes i nan)
+pointRay l point strip s y spans sizes i = rayBy (l .reflection) (vectorTo l point strip s y spans i) (getD sizes i nan)
 
 -- the light vector and the ray by the definition
 abbrev pub toPointFrom : Lighting → Vector3 → Strip → List ℕ → (y i : ℕ) → Vector3

@@ -63,7 +63,7 @@ distant-row-requires c κs =
     let r₃ = i .1 .1 .1 .0 in
     let same = i .1 .1 .1 .1 .0 in
     let r₄ = i .1 .1 .1 .1 .1 .1 .0 in
-    (i .1 .1 .1 .1 .1 .1 .1, ((p .1 .0 .0, p .1 .0 .2, same ∙ p .1 .0 .3, c .before .before .before .before .before .before .if1 .taken), (omega arith, omega arith, omega arith, omega arith, omega arith)))
+    (i .1 .1 .1 .1 .1 .1 .1, ((p .1 .0 .0, p .1 .0 .2, same ∙ p .1 .0 .3, c .before .before .before .before .before .before .if1 .taken), ((omega arith, omega arith, omega arith), (omega arith, omega arith))))
 
 add-y : tie.Need-add-y Inv-loop μ-loop
 add-y c = search needs

@@ -7,7 +7,7 @@ use lib.ListN.{getD}
 use lib.Ieee.{nan}
 use Rattle.lighting.specs.inner.Lines.{normalIn}
 use Rattle.lighting.specs.inner.Pixels.{alongBy}
-use Rattle.lighting.specs.inner.Rows.{Filled, pointVector}
+use Rattle.lighting.specs.inner.Rows.{Filled, vectorTo}
 use Rattle.lighting.proofs.Leans.{alpha-along, along-inside}
 use Rattle.lighting.proofs.Passes.{filled-none, filled-more}
 use Rattle.lighting.proofs.rows.along_each.Statement.{statement}
@@ -15,7 +15,7 @@ use Rattle.lighting.proofs.rows.along_each.Tie as tie
 
 abbrev Inv-loop : tie.InvT-loop
 Inv-loop lighting point strip src sums above below spans y lengths₀ reflection start i₀ lengths i =
-    (i ≤ strip .count) × Filled nan (λ j. alongBy (lighting .scale) (normalIn strip sums above below j y) (getD lengths₀ j nan) (pointVector (lighting .reflection) point (lighting .scale) strip src y spans j)) i lengths₀ lengths
+    (i ≤ strip .count) × Filled nan (λ j. alongBy (lighting .scale) (normalIn strip sums above below j y) (getD lengths₀ j nan) (vectorTo lighting point strip src y spans j)) i lengths₀ lengths
 
 abbrev μ-loop : tie.MeasureT-loop
 μ-loop lighting point strip src sums above below spans y lengths₀ reflection start i₀ lengths i = strip .count - i

@@ -10,14 +10,14 @@ slopes-requires c κs = search needs
 along-vector-requires : tie.Need-along-vector-requires
 along-vector-requires c κs =
     let p = c .before .before .before .before .before .before .before .before .before .before .before .before .before .before .before .before .before .before .before .before .before .before .before .before .pre .1 in
-    let lengths = p .1 .3 in
+    let lengths = p .1 .1 .0 in
     (p .0 .0, c .before .before .before .before .before .before .before .before .before .before .before .before .slopes .ensures .columns, p .0 .3, search needs)
 
 light-row-requires : tie.Need-light-row-requires
 light-row-requires c κs =
     let p = c .before .before .before .before .before .before .before .before .before .before .before .before .before .before .before .before .before .before .before .before .before .before .before .before .before .before .before .before .before .pre .1 in
-    let lengths = p .1 .3 in
-    (p .0 .0, p .1 .4, search needs, p .0 .2, p .0 .3)
+    let lengths = p .1 .1 .0 in
+    (p .0 .0, p .1 .1 .1, search needs, p .0 .2, p .0 .3)
 
 same-length : tie.Need-same-length
 same-length c = search needs

@@ -1,6 +1,6 @@
 -- A point's rays are made of their distances and lengths.
 use borrow.Author.Needs.{needs}
-use Rattle.lighting.specs.inner.Rows.{pointVector}
+use Rattle.lighting.specs.inner.Rows.{vectorTo}
 use Rattle.lighting.proofs.LitRows.{row-done}
 use Rattle.lighting.proofs.rows.point_row.Statement.{statement}
 use Rattle.lighting.proofs.rows.point_row.Tie as tie
@@ -52,7 +52,7 @@ returns c =
     let t = a .lighting in
     let p = c .before .before .before .before .before .before .before .before .before .before .before .before .before .before .before .before .before .before .before .before .before .before .before .before .before .before .before .before .before .before .before .before .before .before .before .before .before .before .before .before .before .before .before .before .pre in
     let l = c .before .before .before .before .before .before .before .before .before .before .before .before .before .before .before .before .before .before .before .before .point-lengths in
-    row-done t (a .strip) (a .src .now) (a .y) (p .1 .0 .0) (c .before .before .before .before .before .before .before .before .before .before .before .before .before .before .before .before .before .before .before .before .before .before .before .before .before .before .before .before .before .before .before .slopes .ensures) (pointVector (t .reflection) (a .point) (t .scale) (a .strip) (a .src .now) (a .y) (l .last .1 .1 .1 .1 .1 .0)) (l .last .1 .1 .1 .1 .1 .1 .0) (λ i h. rw (p .0) (l .ensures i h)) (c .before .before .before .before .before .before .before .before .before .before .along-each .ensures) (c .before .before .before .before .light-row .ensures)
+    row-done t (a .strip) (a .src .now) (a .y) (p .1 .0 .0) (c .before .before .before .before .before .before .before .before .before .before .before .before .before .before .before .before .before .before .before .before .before .before .before .before .before .before .before .before .before .before .before .slopes .ensures) (vectorTo t (a .point) (a .strip) (a .src .now) (a .y) (l .last .1 .1 .1 .1 .1 .0)) (l .last .1 .1 .1 .1 .1 .1 .0) (λ i h. rw (p .0) (l .ensures i h)) (c .before .before .before .before .before .before .before .before .before .before .along-each .ensures) (c .before .before .before .before .light-row .ensures)
 
 pub point-row-spec : {M : Type 1} → statement M
 point-row-spec =
