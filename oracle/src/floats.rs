@@ -15,7 +15,7 @@ pub struct Record {
     pub answer: u32,
 }
 
-/// Document 01's rule: zero of either sign, or positive with bits at most 4.
+/// docs/LAW.md's rule: zero of either sign, or positive with bits at most 4.
 pub fn near_zero(bits: u32) -> bool {
     bits == 0x8000_0000 || bits <= 4
 }

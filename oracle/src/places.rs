@@ -69,7 +69,7 @@ fn call(rng: &mut Rng, found: &mut Found) {
     }
 }
 
-/// Document 01's D less one: the least whole number not below |s x scale| / 2. The product of two f32 is exact in f64.
+/// docs/LAW.md's D less one: the least whole number not below |s x scale| / 2. The product of two f32 is exact in f64.
 fn least_distance(s: f32, scale: f32) -> u64 {
     ((s as f64 * scale as f64).abs() / 2.0).ceil() as u64
 }

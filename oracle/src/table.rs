@@ -1,4 +1,4 @@
-//! Document 01's table of refusals 1 to 5, read apart from the library.
+//! docs/LAW.md's table of refusals 1 to 5, read apart from the library.
 //! Tests 1 to 5 in this order, and the first that fails is the answer; none looks at a pixel.
 
 use crate::case::{Answer, Case};
@@ -14,7 +14,7 @@ pub const KERNEL_SIDE: u32 = 15;
 /// The smallest size of a divisor.
 pub const LEAST_DIVISOR: f32 = 1.0 / 65536.0;
 
-/// A closed range of document 01.
+/// A closed range of docs/LAW.md.
 pub type Range = (f32, f32);
 /// Kernel, bias, matrix, Saturate, table values, slope, intercept, k1..k4.
 pub const WIDE: Range = (-65536.0, 65536.0);

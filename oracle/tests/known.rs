@@ -1,4 +1,4 @@
-//! Document 01's known results and its table, by hand, through the same calls as every other case.
+//! docs/LAW.md's known results and its table, by hand, through the same calls as every other case.
 
 use oracle::case::{Case, Param};
 use oracle::nasty::Limits;

@@ -1,4 +1,4 @@
-//! Document 01's known results, through the library.
+//! docs/LAW.md's known results, through the library.
 
 use nuprikhen::color_matrix::{self, ColorMatrix};
 use nuprikhen::component_transfer::{self, TransferFunction};

@@ -1,5 +1,5 @@
 -- Every byte that a byte of a Matrix's result reads is needed, so its reach is the least: under a matrix of ones each channel is the sum of all four.
--- Document 01 counts all four channels of the pixel for the other kinds too. There some are not needed: Saturate and HueRotate keep alpha, which so depends on no
+-- docs/LAW.md counts all four channels of the pixel for the other kinds too. There some are not needed: Saturate and HueRotate keep alpha, which so depends on no
 -- colour, and their colours do not depend on alpha; LuminanceToAlpha's alpha depends on the three colours, and its colours, which are 0, on nothing.
 use Prim.Native.Nat.{ℕ, zero, suc, _+_, _*_, _/_, _%_, _≤_, _<_}
 use mathlib.Core.Path.{_≡_, refl, ap, _∙_}

@@ -1,5 +1,5 @@
 -- No byte of the map that a byte of the result reads is read in vain: by sx = sy = 1 and scale = 2 a byte 128 leaves the place, and a byte 255 moves it by one. And every byte of the
--- picture to which a map sends a byte is needed. Document 01 counts bytes of the picture all the same that no map sends it to: the columns and rows at D itself, which is one more than any
+-- picture to which a map sends a byte is needed. docs/LAW.md counts bytes of the picture all the same that no map sends it to: the columns and rows at D itself, which is one more than any
 -- target's distance (Distance.target-near), and those between the 256 targets where |s * scale| is above 255.
 use Prim.Native.Nat.{ℕ, suc, _+_, _-_, _*_, _/_, _%_, _≤_, _<_}
 use mathlib.Core.Path.{_≡_, refl, sym, ap, _∙_, subst}

@@ -1,4 +1,4 @@
--- Document 01's example of reach: dilated by 1 by 0 twice, at width 5, alpha of pixel 0 reaches the source alphas of the pixels 0, 1 and 2, and nothing else.
+-- docs/LAW.md's example of reach: dilated by 1 by 0 twice, at width 5, alpha of pixel 0 reaches the source alphas of the pixels 0, 1 and 2, and nothing else.
 use Prim.Native.Nat.{ℕ, zero, suc, _+_, _*_, _%_, _<_}
 use mathlib.Core.Path.{_≡_, refl, _∙_}
 use mathlib.Core.List.{[]}

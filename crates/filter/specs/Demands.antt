@@ -14,7 +14,7 @@ use Rattle.filter.specs.Slots.{slotOf, made, acts}
 use Rattle.filter.specs.Call.{Call, slotsWere, slotsBecame, lengths, answer, Ran}
 use Rattle.filter.specs.Reach.{Reached, ReachesExactly}
 
--- ---- 1. Any input gets an answer: the answer of document 01's table, and a refusal changes no lent byte
+-- ---- 1. Any input gets an answer: the answer of docs/LAW.md's table, and a refusal changes no lent byte
 pub record Unchanged (c : Call) : Type 0 where
   pub slots-kept : slotsBecame c ≡ slotsWere c
   pub scratch-kept : became (c .scratch) ≡ was (c .scratch)

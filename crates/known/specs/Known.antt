@@ -1,4 +1,4 @@
--- Document 01's checks with known results, those that it marks: a row is what the definitions give, and what the document says.
+-- The known results of docs/LAW.md that are proved: a row is what the definitions give, and what the law says.
 use Prim.Native.Nat.{ℕ, zero, suc, _*_}
 use lib.IntN.{ℤ, pos, negsuc}
 use mathlib.Core.Bool.{false}

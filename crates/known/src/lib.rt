@@ -1,1 +1,1 @@
-// Document 01's checks with known results: a table in specs/, proved in proofs/. There is no code.
+// The known results of docs/LAW.md: a table in specs/, proved in proofs/. There is no code.

@@ -1,6 +1,6 @@
 -- Every alpha that a byte of a lighting reads is needed, so its reach is the least: of a clear sheet white light from above makes 255, and an
 -- opaque pixel beside the byte's own makes the surface lean, and less light of it. The pixel's own alpha hides a point just above it. Diffuse
--- light is opaque everywhere, so that its own alpha needs nothing: document 01 counts what it reads all the same.
+-- light is opaque everywhere, so that its own alpha needs nothing: docs/LAW.md counts what it reads all the same.
 use Prim.Native.Nat.{ℕ, zero, suc, _+_, _-_, _*_, _%_, _^_, _≤_, _<_, max}
 use mathlib.Core.Path.{_≡_, refl, sym, ap, _∙_}
 use mathlib.Core.Bool.{Bool, true, false, cond, true≢false}

@@ -1,4 +1,4 @@
--- Messages worked out: request 14's own, one with numbers for the pool, a NaN, and one for each way of being wrong.
+-- Messages worked out: the first of docs/MESSAGES.md, one with numbers for the pool, a NaN, and one for each way of being wrong.
 use Prim.Native.Nat.{ℕ}
 use mathlib.Core.Path.{_≡_, refl}
 use mathlib.Core.List.{List, [], _∷_}

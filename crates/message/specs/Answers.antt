@@ -28,7 +28,7 @@ use Rattle.message.specs.declared.writing.Writing.{Writing}
 use Rattle.message.specs.Steps.{partsOf}
 use Rattle.message.specs.Message.{Content, empty, Outcome, good, bad, readMessage, messageBytes}
 
--- the numbers of documents 01 and 02
+-- the numbers of docs/LAW.md
 abbrev pub number : MessageAnswer → ℕ
 number Done = 0
 number (Shape i) = 3

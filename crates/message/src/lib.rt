@@ -31,7 +31,7 @@ pub enum MessageAnswer {
     Room,
 }
 
-// The number of an answer, as in documents 01 and 02.
+// The number of an answer, as in docs/LAW.md.
 pub fn answer_number(answer: MessageAnswer) -> u8
     ensures { λ r. ⌜ r ≡ Answers.number answer ⌝ }
 {

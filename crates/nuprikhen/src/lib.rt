@@ -14,7 +14,7 @@ mod nup_turbulence;
 use sheet::Answer;
 ghost use Rattle.nuprikhen.specs.Called.{Told};
 
-// What a call answers: document 01's number, 0 when it is done, and the index of the step.
+// What a call answers: docs/LAW.md's number, 0 when it is done, and the index of the step.
 #[repr(C)]
 pub struct nup_answer {
     pub number: u8,

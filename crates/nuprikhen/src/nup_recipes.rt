@@ -14,7 +14,7 @@ ghost use Rattle.nuprikhen.specs.inner.Recipes.{RanByKind, RunTold, Reac
 // The numbers of a message: sixteen steps of four tables of 256, so that no message which holds more can be accepted.
 const POOL: usize = 16384;
 
-// What a run of a message answers: document 01's number or a message's, the index of the step, and for 10 the offset of the
+// What a run of a message answers: docs/LAW.md's number or a message's, the index of the step, and for 10 the offset of the
 // wrong number.
 #[repr(C)]
 pub struct nup_run_answer {

@@ -1,4 +1,4 @@
--- What a run is answered: document 01's tests 1, 2 and 6, then for each step in turn 7, 8 and 3, 4, 5.
+-- What a run is answered: docs/LAW.md's tests 1, 2 and 6, then for each step in turn 7, 8 and 3, 4, 5.
 use Prim.Native.Nat.{ℕ, zero, suc}
 use mathlib.Core.Bool.{Bool, true, false, cond}
 use mathlib.Core.List.{List}

@@ -1,4 +1,4 @@
-// The tests of a run, in document 01's order; none looks at a pixel.
+// The tests of a run, in docs/LAW.md's order; none looks at a pixel.
 use crate::Kind;
 use crate::Recipe;
 use crate::STEP_LIMIT;

@@ -1,4 +1,4 @@
-// Document 01's example of reach, shown by runs: dilate of radius 1 by 0 twice, on one row of five pixels.
+// docs/LAW.md's example of reach, shown by runs: dilate of radius 1 by 0 twice, on one row of five pixels.
 use filter::Kind;
 use filter::Recipe;
 use filter::STEP_LIMIT;

@@ -1,4 +1,4 @@
--- Answers: document 01's number and step index of each, and what a first refusal does.
+-- Answers: docs/LAW.md's number and step index of each, and what a first refusal does.
 use Prim.Native.Nat.{ℕ, _-_}
 use mathlib.Core.List.{[], _∷_}
 use lib.ListN.{getD}
@@ -30,7 +30,7 @@ stepIndex (Refused r i) = i
 abbrev pub refused : Refusal → Answer
 refused r = Refused r 0
 
--- the refusal of document 01's number n, with step index 0
+-- the refusal of docs/LAW.md's number n, with step index 0
 abbrev pub refusal : ℕ → Answer
 refusal n = refused (getD (Size ∷ Length ∷ Shape ∷ NotFinite ∷ Range ∷ Steps ∷ Slot ∷ Kind ∷ []) (n - 1) Kind)
 

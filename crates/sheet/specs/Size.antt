@@ -1,4 +1,4 @@
--- Tests 1 and 2 of document 01: the sides, and the lengths of the lent sheets.
+-- Tests 1 and 2 of docs/LAW.md: the sides, and the lengths of the lent sheets.
 use Prim.Native.Nat.{ℕ, _*_, _≤_, _<_}
 use mathlib.Core.Bool.{Bool, false, cond}
 use mathlib.Core.List.{List, [], _∷_}

@@ -10,7 +10,7 @@ ghost use Rattle.sheet.specs.Size.{isSide, sheetsAnswer};
 ghost use Rattle.sheet.specs.Tabulate.{zeros, copied};
 ghost use Rattle.sheet.specs.inner.Strips.{stripFrom};
 
-// Why a call is turned away: document 01's numbers 1 to 8, in order.
+// Why a call is turned away: docs/LAW.md's numbers 1 to 8, in order.
 pub enum Refusal {
     Size,
     Length,
@@ -55,7 +55,7 @@ fn refusal_number(refusal: Refusal) -> u8
     }
 }
 
-// Document 01's number of an answer.
+// docs/LAW.md's number of an answer.
 pub fn answer_number(answer: Answer) -> u8
     ensures { λ r. ⌜ r ≡ number answer ⌝ }
 {

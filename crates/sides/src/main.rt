@@ -1,4 +1,4 @@
-// Document 01's boundary cases of the side limit, by every primitive and by a recipe: the numbers of their answers.
+// docs/LAW.md's boundary cases of the side limit, by every primitive and by a recipe: the numbers of their answers.
 use color_matrix::ColorMatrix;
 use component_transfer::TransferFunction;
 use convolve_matrix::ConvolveMatrix;

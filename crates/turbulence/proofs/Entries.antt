@@ -1,4 +1,4 @@
--- What document 01 says of the tables, for every seed.
+-- What docs/LAW.md says of the tables, for every seed.
 use Prim.Native.Nat.{ℕ, zero, suc, _+_, _*_, _/_, _%_, _≤_, _<_}
 use mathlib.Core.Path.{_≡_, ap, _∙_, sym}
 use native.Mathlib.Omega.{arith}

@@ -1,4 +1,4 @@
--- No lattice position leaves an i32, for parameters within document 01's ranges and a pixel within the side limit: so the Rust's two casts of it agree.
+-- No lattice position leaves an i32, for parameters within docs/LAW.md's ranges and a pixel within the side limit: so the Rust's two casts of it agree.
 use Prim.Native.Nat.{ℕ, zero, suc, _+_, _*_, _^_, _≤_, _<_}
 use mathlib.Core.Path.{_≡_, sym, ap, _∙_, subst}
 use mathlib.Core.Bool.{Bool, true, false, cond, _&&_, _||_}

@@ -1,4 +1,4 @@
-// Document 01's noise without frequencies or octaves: 128 in every channel for fractal noise and else 0, unless frequencies are 0
+// docs/LAW.md's noise without frequencies or octaves: 128 in every channel for fractal noise and else 0, unless frequencies are 0
 // and a gradient that is read is NaN.
 use libc::STDOUT_FILENO;
 use turbulence::Turbulence;

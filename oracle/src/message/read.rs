@@ -222,7 +222,7 @@ mod tests {
         }
     }
 
-    /// Request 14's example: one dilate of radius 1 by 0 from slot 0 to slot 1.
+    /// The first example of docs/MESSAGES.md: one dilate of radius 1 by 0 from slot 0 to slot 1.
     const DILATE: [u8; 11] = [1, 1, 0, 1, 0, 0x80, 0x80, 0x80, 0xfc, 3, 0];
 
     fn changed(at: usize, to: &[u8]) -> Vec<u8> {

@@ -155,7 +155,7 @@ fn spoil(rng: &mut Rng, case: &mut Case) {
     }
 }
 
-/// The values of a kind that carries none are no parameters. Document 01 does not speak of them, so
+/// The values of a kind that carries none are no parameters. docs/LAW.md does not speak of them, so
 /// no case has one that is NaN, out of range or in a list that is too long.
 fn reading(case: &Case) -> Reading {
     let mut reading = Reading::default();

@@ -20,7 +20,7 @@ pub struct Primitive {
     pub code: u32,
     /// The largest side that is worth drawing: the Rust's morphology slows with the square of its radii.
     pub large: u32,
-    /// Cases that are always among the stored ones: document 01's known results and edges.
+    /// Cases that are always among the stored ones: docs/LAW.md's known results and edges.
     pub known: fn() -> Vec<Case>,
     /// A case of this width and height that is accepted.
     pub draw: fn(&mut Rng, u32, u32) -> Case,

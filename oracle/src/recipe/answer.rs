@@ -1,4 +1,4 @@
-//! Document 01's tests of a recipe: 1, 2 and 6, then step by step 7, 8, 3, 4 and 5.
+//! docs/LAW.md's tests of a recipe: 1, 2 and 6, then step by step 7, 8, 3, 4 and 5.
 
 use super::{Kind, Recipe, STEPS, Step};
 use crate::case::Answer;

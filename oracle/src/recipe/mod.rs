@@ -1,4 +1,4 @@
-//! Recipes over four slots, read apart from the library: what they are, document 01's tests, a run by
+//! Recipes over four slots, read apart from the library: what they are, docs/LAW.md's tests, a run by
 //! resvg's functions step by step, reach, awkward draws, and the stored list.
 
 mod answer;

@@ -1,5 +1,5 @@
 //! The types of usvg that the filter files name, with the same accessors.
-//! Nothing is validated here: document 01's ranges are tested elsewhere.
+//! Nothing is validated here: docs/LAW.md's ranges are tested elsewhere.
 
 pub mod filter;
 mod ulps;
