@@ -11,8 +11,10 @@ use nuprikhen::lighting::{Color, LightSource};
 use nuprikhen::morphology::MorphologyOperator;
 use nuprikhen::recipe::Recipe;
 
-/// Each recipe and the name of its file.
-const RECIPES: [(&str, fn() -> Recipe); 2] = [("emboss.recipe", emboss), ("shadow.recipe", shadow)];
+/// The name of a file and what makes its recipe.
+type Named = (&'static str, fn() -> Recipe);
+
+const RECIPES: [Named; 2] = [("emboss.recipe", emboss), ("shadow.recipe", shadow)];
 
 /// No colour, and six tenths of alpha.
 #[rustfmt::skip]
@@ -23,8 +25,8 @@ const DARK: [f32; 20] = [
     0.0, 0.0, 0.0, 0.6, 0.0,
 ];
 
-/// A kernel of a single 1 that preserves alpha: it premultiplies.
-const PREMULTIPLY: ConvolveMatrix = ConvolveMatrix {
+/// A kernel of a single 1: where alpha is preserved it premultiplies.
+const ONE: ConvolveMatrix = ConvolveMatrix {
     columns: 1,
     rows: 1,
     target_x: 0,
@@ -33,7 +35,6 @@ const PREMULTIPLY: ConvolveMatrix = ConvolveMatrix {
     divisor: 1.0,
     bias: 0.0,
     edge_mode: EdgeMode::None,
-    preserve_alpha: true,
 };
 
 /// The mean of 7 by 7 pixels, of which this one is in the given column and row.
@@ -47,7 +48,6 @@ fn mean(target: u32, edge_mode: EdgeMode) -> ConvolveMatrix<'static> {
         divisor: 49.0,
         bias: 0.0,
         edge_mode,
-        preserve_alpha: false,
     }
 }
 
@@ -60,10 +60,10 @@ fn emboss() -> Recipe {
         blue: 255,
     };
     Recipe::new()
-        .convolve_matrix(0, 1, &PREMULTIPLY)
+        .convolve_matrix_preserving_alpha(0, 1, &ONE)
         .convolve_matrix(1, 2, &mean(3, EdgeMode::Duplicate))
         .diffuse_lighting(2, 3, light, 5.0, 1.5, white)
-        .convolve_matrix(3, 2, &PREMULTIPLY)
+        .convolve_matrix_preserving_alpha(3, 2, &ONE)
         .arithmetic(1, 2, 3, 1.0, 0.0, 0.0, 0.0)
 }
 
@@ -72,10 +72,10 @@ fn shadow() -> Recipe {
     let operator = MorphologyOperator::Dilate;
     Recipe::new()
         .color_matrix(0, 1, &ColorMatrix::Matrix(&DARK))
-        .convolve_matrix(1, 2, &PREMULTIPLY)
+        .convolve_matrix_preserving_alpha(1, 2, &ONE)
         .morphology(2, 1, operator, 2.0, 2.0)
         .convolve_matrix(1, 2, &mean(6, EdgeMode::None))
-        .convolve_matrix(0, 1, &PREMULTIPLY)
+        .convolve_matrix_preserving_alpha(0, 1, &ONE)
         .arithmetic(1, 2, 3, -1.0, 1.0, 1.0, 0.0)
 }
 

@@ -1,6 +1,6 @@
 //! resvg's component_transfer.rs, without Gamma.
 
-use crate::{Refusal, library};
+use crate::{Refusal, SheetMut, Straight, library};
 
 /// What becomes of a channel, as a number from 0 to 1. All numbers here are -65,536 to 65,536.
 #[derive(Clone, Copy, Debug, PartialEq)]
@@ -47,19 +47,24 @@ impl TransferFunction<'_> {
 
 /// Applies component transfer functions for each `src` image channel, in place.
 ///
-/// `src` pixels have an **unpremultiplied alpha**. Results are cut, not rounded.
+/// Results are cut, not rounded.
 ///
-/// Refused: 1, 2, 3 (over 256 entries), 4, 5.
+/// # Errors
+///
+/// [`Refusal::Shape`] of over 256 entries; [`Refusal::NotFinite`] and [`Refusal::Range`] of the numbers, as
+/// [`TransferFunction`] has them.
 ///
 /// ```
+/// use nuprikhen::SheetMut;
 /// use nuprikhen::component_transfer::{self, TransferFunction};
 ///
 /// let two = TransferFunction::Discrete(&[0.0, 1.0]);
 /// let turned = TransferFunction::Table(&[1.0, 0.0]);
 /// let half = TransferFunction::Linear { slope: 0.5, intercept: 0.0 };
-/// let mut src = [127, 0, 255, 99, 128, 255, 2, 99];
-/// component_transfer::apply(&two, &turned, &half, &TransferFunction::Identity, 2, 1, &mut src)?;
-/// assert_eq!(src, [0, 255, 127, 99, 255, 0, 1, 99]);
+/// let mut bytes = [127, 0, 255, 99, 128, 255, 2, 99];
+/// let src = SheetMut::new(2, 1, &mut bytes)?;
+/// component_transfer::apply(&two, &turned, &half, &TransferFunction::Identity, src)?;
+/// assert_eq!(bytes, [0, 255, 127, 99, 255, 0, 1, 99]);
 /// # Ok::<(), nuprikhen::Refusal>(())
 /// ```
 pub fn apply(
@@ -67,10 +72,9 @@ pub fn apply(
     g: &TransferFunction,
     b: &TransferFunction,
     a: &TransferFunction,
-    width: u32,
-    height: u32,
-    src: &mut [u8],
+    src: SheetMut<Straight>,
 ) -> Result<(), Refusal> {
+    let (width, height, src) = (src.width(), src.height(), src.into_bytes());
     let kinds = [r, g, b, a].map(TransferFunction::kind);
     let mut pairs = [[0.0; 2]; 4];
     let [pair_r, pair_g, pair_b, pair_a] = &mut pairs;

@@ -1,6 +1,6 @@
 //! resvg's convolve_matrix.rs.
 
-use crate::{Refusal, library};
+use crate::{Premultiplied, Refusal, SheetKind, SheetMut, Straight, library};
 
 /// What stands for the pixels beyond the edges.
 #[derive(Clone, Copy, Debug, PartialEq, Eq, Hash)]
@@ -14,6 +14,9 @@ pub enum EdgeMode {
 }
 
 /// A kernel of `rows` rows of `columns` numbers, and what is done with its sums.
+///
+/// resvg's `preserve_alpha` is no field: it asks for a sheet of the other kind, and so it is a function of
+/// its own, [`apply_preserving_alpha`].
 #[derive(Clone, Copy, Debug, PartialEq)]
 pub struct ConvolveMatrix<'a> {
     /// The numbers of a row, 1 to 15.
@@ -24,27 +27,28 @@ pub struct ConvolveMatrix<'a> {
     pub target_x: u32,
     /// The row of the window that falls on the pixel.
     pub target_y: u32,
-    /// Row by row; it is turned by half a turn.
+    /// Row by row, each number -65,536 to 65,536; it is turned by half a turn.
     pub matrix: &'a [f32],
-    /// Divides each sum.
+    /// Divides each sum; -65,536 to 65,536, in size at least 1/65,536.
     pub divisor: f32,
-    /// Is added to alpha, and times the new alpha to each colour.
+    /// Is added to alpha, and times the new alpha to each colour; -65,536 to 65,536.
     pub bias: f32,
     /// What stands for the pixels beyond the edges.
     pub edge_mode: EdgeMode,
-    /// Whether a pixel keeps its alpha; then `src` is straight.
-    pub preserve_alpha: bool,
 }
 
-/// Applies a convolve matrix, in place.
+/// Applies a convolve matrix to all four channels, in place.
 ///
-/// `src` pixels have a **premultiplied alpha**, or a straight one where alpha is preserved; afterwards it
-/// is premultiplied. `scratch` is as long as `src`, and all zero afterwards.
+/// `scratch` is as long as `src`, and all zero afterwards.
 ///
-/// Refused: 1, 2, 3 (a side of the kernel outside 1 to 15, a target outside it, another number of
-/// numbers), 4, 5 (kernel and bias -65,536 to 65,536; divisor the same, in size at least 1/65,536).
+/// # Errors
+///
+/// [`Refusal::Length`] of scratch; [`Refusal::Shape`] of a side of the kernel outside 1 to 15, of a target
+/// outside it, and of another number of numbers than columns x rows; [`Refusal::NotFinite`] and
+/// [`Refusal::Range`] of the numbers, as [`ConvolveMatrix`] has them.
 ///
 /// ```
+/// use nuprikhen::SheetMut;
 /// use nuprikhen::convolve_matrix::{self, ConvolveMatrix, EdgeMode};
 ///
 /// let matrix = ConvolveMatrix {
@@ -56,22 +60,81 @@ pub struct ConvolveMatrix<'a> {
 ///     divisor: 1.0,
 ///     bias: 0.0,
 ///     edge_mode: EdgeMode::None,
-///     preserve_alpha: false,
 /// };
-/// let mut src = [0, 0, 0, 0, 0, 0, 0, 255, 0, 0, 0, 0];
+/// let mut bytes = [0, 0, 0, 0, 0, 0, 0, 255, 0, 0, 0, 0];
 /// let mut scratch = [7; 12];
-/// convolve_matrix::apply(&matrix, 3, 1, &mut src, &mut scratch)?;
-/// assert_eq!(src, [0, 0, 0, 255, 0, 0, 0, 0, 0, 0, 0, 0]);
+/// convolve_matrix::apply(&matrix, SheetMut::new(3, 1, &mut bytes)?, &mut scratch)?;
+/// assert_eq!(bytes, [0, 0, 0, 255, 0, 0, 0, 0, 0, 0, 0, 0]);
 /// assert_eq!(scratch, [0; 12]);
 /// # Ok::<(), nuprikhen::Refusal>(())
 /// ```
 pub fn apply(
     matrix: &ConvolveMatrix,
-    width: u32,
-    height: u32,
-    src: &mut [u8],
+    src: SheetMut<Premultiplied>,
     scratch: &mut [u8],
 ) -> Result<(), Refusal> {
+    convolved(matrix, false, src, scratch)
+}
+
+/// Applies a convolve matrix to the colours, in place: each pixel keeps its alpha, by which its new colours
+/// are multiplied.
+///
+/// The sheet comes back as what it has become; lend it whole, since what is left of a reborrowed sheet
+/// still counts as straight. `scratch` is as long as `src`, and all zero afterwards.
+///
+/// # Errors
+///
+/// As of [`apply`].
+///
+/// ```
+/// use nuprikhen::SheetMut;
+/// use nuprikhen::convolve_matrix::{self, ConvolveMatrix, EdgeMode};
+/// use nuprikhen::morphology::{self, MorphologyOperator};
+///
+/// // A kernel of a single 1 premultiplies.
+/// let one = ConvolveMatrix {
+///     columns: 1,
+///     rows: 1,
+///     target_x: 0,
+///     target_y: 0,
+///     matrix: &[1.0],
+///     divisor: 1.0,
+///     bias: 0.0,
+///     edge_mode: EdgeMode::None,
+/// };
+/// let (mut bytes, mut scratch) = ([200, 100, 0, 51], [0; 4]);
+/// let straight = SheetMut::new(1, 1, &mut bytes)?;
+/// let src = convolve_matrix::apply_preserving_alpha(&one, straight, &mut scratch)?;
+/// assert_eq!(src.bytes(), [40, 20, 0, 51]);
+/// morphology::apply(MorphologyOperator::Dilate, 1.0, 1.0, src, &mut scratch)?;
+/// # Ok::<(), nuprikhen::Refusal>(())
+/// ```
+///
+/// A premultiplied sheet is not taken:
+///
+/// ```compile_fail,E0308
+/// # use nuprikhen::convolve_matrix::{self, ConvolveMatrix};
+/// # use nuprikhen::{Premultiplied, Refusal, SheetMut};
+/// fn twice(matrix: &ConvolveMatrix, src: SheetMut<Premultiplied>, scratch: &mut [u8]) -> Result<(), Refusal> {
+///     convolve_matrix::apply_preserving_alpha(matrix, src, scratch).map(|_| ())
+/// }
+/// ```
+pub fn apply_preserving_alpha<'a>(
+    matrix: &ConvolveMatrix,
+    mut src: SheetMut<'a, Straight>,
+    scratch: &mut [u8],
+) -> Result<SheetMut<'a, Premultiplied>, Refusal> {
+    convolved(matrix, true, src.reborrow(), scratch)?;
+    Ok(src.into_kind())
+}
+
+fn convolved<K: SheetKind>(
+    matrix: &ConvolveMatrix,
+    preserve_alpha: bool,
+    src: SheetMut<K>,
+    scratch: &mut [u8],
+) -> Result<(), Refusal> {
+    let (width, height, src) = (src.width(), src.height(), src.into_bytes());
     // SAFETY: the slices are borrowed for this call alone, with their own lengths.
     let answer = unsafe {
         library::nup_convolve_matrix(
@@ -86,7 +149,7 @@ pub fn apply(
             matrix.divisor,
             matrix.bias,
             matrix.edge_mode as u8,
-            matrix.preserve_alpha as u8,
+            preserve_alpha as u8,
             src.as_mut_ptr(),
             src.len(),
             scratch.as_mut_ptr(),

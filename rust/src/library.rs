@@ -3,7 +3,9 @@
 
 use crate::Refusal;
 
-/// The number of the answer, 0 when it is done, and the index of the step.
+/// The number of the answer, 0 when it is done, and the index of the step, which is always 0: no step is
+/// told of a single call.
+#[allow(dead_code)]
 #[repr(C)]
 pub struct Answer {
     number: u8,
@@ -11,6 +13,7 @@ pub struct Answer {
 }
 
 /// The answer to a message: the offset is where the wrong number begins, of number 10.
+#[cfg(feature = "alloc")]
 #[repr(C)]
 pub struct RunAnswer {
     pub number: u8,
@@ -19,6 +22,7 @@ pub struct RunAnswer {
 }
 
 /// The same, and 1 where the result reaches slot 0.
+#[cfg(feature = "alloc")]
 #[repr(C)]
 pub struct ReachAnswer {
     pub number: u8,
@@ -31,7 +35,7 @@ impl Answer {
     pub fn told(self) -> Result<(), Refusal> {
         match self.number {
             0 => Ok(()),
-            number => Err(Refusal::new(number, self.step)),
+            number => Err(Refusal::of(number, None, 0)),
         }
     }
 }
@@ -194,6 +198,7 @@ unsafe extern "C" {
         dest_len: usize,
     ) -> Answer;
 
+    #[cfg(feature = "alloc")]
     pub fn nup_run(
         message: *const u8,
         message_len: usize,
@@ -212,6 +217,7 @@ unsafe extern "C" {
         scratch_len: usize,
     ) -> RunAnswer;
 
+    #[cfg(feature = "alloc")]
     pub fn nup_reaches(
         message: *const u8,
         message_len: usize,

@@ -1,13 +1,14 @@
 //! resvg's lighting.rs, without spot lights.
 
-use crate::{Refusal, library};
+use crate::{Premultiplied, Refusal, SheetKind, SheetMut, SheetRef, Straight, library};
 
 /// A light source.
 #[derive(Clone, Copy, Debug, PartialEq)]
 pub enum LightSource {
-    /// The direction x, y, z that the light comes from; its length is 1.
+    /// The direction x, y, z that the light comes from; the exact sum of their squares is within 1/1,024
+    /// of 1.
     Distant(f32, f32, f32),
-    /// The place x, y, z of the light, in pixels.
+    /// The place x, y, z of the light, in pixels, -65,536 to 65,536.
     Point(f32, f32, f32),
 }
 
@@ -22,7 +23,7 @@ impl LightSource {
 }
 
 /// A light's colour.
-#[derive(Clone, Copy, Debug, PartialEq, Eq)]
+#[derive(Clone, Copy, Debug, PartialEq, Eq, Hash)]
 pub struct Color {
     /// Red, 0 to 255.
     pub red: u8,
@@ -32,52 +33,81 @@ pub struct Color {
     pub blue: u8,
 }
 
+/// A surface that throws light back in all directions.
+#[derive(Clone, Copy, Debug, PartialEq)]
+pub struct DiffuseLighting {
+    /// The height of the surface where alpha is 255, -256 to 256.
+    pub surface_scale: f32,
+    /// How much light it throws back, 0 to 256.
+    pub diffuse_constant: f32,
+    /// The light's colour.
+    pub lighting_color: Color,
+}
+
+/// A surface that throws light back like a mirror.
+#[derive(Clone, Copy, Debug, PartialEq)]
+pub struct SpecularLighting {
+    /// The height of the surface where alpha is 255, -256 to 256.
+    pub surface_scale: f32,
+    /// How much light it throws back, 0 to 256.
+    pub specular_constant: f32,
+    /// 1.
+    pub specular_exponent: f32,
+    /// The light's colour.
+    pub lighting_color: Color,
+}
+
 /// Renders a diffuse lighting of the surface that `src`'s alpha makes.
 ///
-/// `src` pixels can have any alpha method, since only the alpha channel is used. `dest` pixels have an
-/// **unpremultiplied alpha**, and are opaque. Below 3 x 3 `dest` is only cleared.
+/// `src` can be of any kind, since only the alpha channel is used. `dest` is opaque. Below 3 x 3 it is only
+/// cleared.
 ///
-/// Refused: 1, 2, 4, 5 (a direction whose exact sum of squares is further than 1/1,024 from 1, a place
-/// beyond -65,536 to 65,536, `surface_scale` beyond -256 to 256, `diffuse_constant` beyond 0 to 256).
+/// # Errors
+///
+/// [`Refusal::Length`] where the sheets differ in size; [`Refusal::NotFinite`] and [`Refusal::Range`] of the
+/// numbers, as [`DiffuseLighting`] and [`LightSource`] have them.
 ///
 /// ```
-/// use nuprikhen::lighting::{self, Color, LightSource};
+/// use nuprikhen::lighting::{self, Color, DiffuseLighting, LightSource};
+/// use nuprikhen::{SheetMut, SheetRef, Straight};
 ///
-/// let white = Color { red: 255, green: 255, blue: 255 };
-/// let (src, mut dest) = ([0; 36], [9; 36]);
+/// let fe = DiffuseLighting {
+///     surface_scale: 1.0,
+///     diffuse_constant: 1.0,
+///     lighting_color: Color { red: 255, green: 255, blue: 255 },
+/// };
+/// let src = SheetRef::<Straight>::new(3, 3, &[0; 36])?;
+/// let mut bytes = [9; 36];
 /// let above = LightSource::Distant(0.0, 0.0, 1.0);
-/// lighting::diffuse_lighting(above, 1.0, 1.0, white, 3, 3, &src, &mut dest)?;
-/// assert_eq!(dest, [255; 36]);
+/// lighting::diffuse_lighting(&fe, above, src, SheetMut::new(3, 3, &mut bytes)?)?;
+/// assert_eq!(bytes, [255; 36]);
 /// # Ok::<(), nuprikhen::Refusal>(())
 /// ```
-#[allow(clippy::too_many_arguments)]
-pub fn diffuse_lighting(
-    light: LightSource,
-    surface_scale: f32,
-    diffuse_constant: f32,
-    color: Color,
-    width: u32,
-    height: u32,
-    src: &[u8],
-    dest: &mut [u8],
+pub fn diffuse_lighting<K: SheetKind>(
+    fe: &DiffuseLighting,
+    light_source: LightSource,
+    src: SheetRef<K>,
+    dest: SheetMut<Straight>,
 ) -> Result<(), Refusal> {
-    let (kind, x, y, z) = light.parts();
+    src.is_of_size(dest.width(), dest.height())?;
+    let dest = dest.into_bytes();
+    let (kind, x, y, z) = light_source.parts();
     // SAFETY: both slices are borrowed for this call, `dest` alone, each with its own length.
     let answer = unsafe {
         library::nup_diffuse_lighting(
-            width,
-            height,
+            src.width(),
+            src.height(),
             kind,
             x,
             y,
             z,
-            surface_scale,
-            diffuse_constant,
-            color.red,
-            color.green,
-            color.blue,
-            src.as_ptr(),
-            src.len(),
+            fe.surface_scale,
+            fe.diffuse_constant,
+            fe.lighting_color.red,
+            fe.lighting_color.green,
+            fe.lighting_color.blue,
+            src.bytes().as_ptr(),
+            src.bytes().len(),
             dest.as_mut_ptr(),
             dest.len(),
         )
@@ -87,51 +117,56 @@ pub fn diffuse_lighting(
 
 /// Renders a specular lighting of the surface that `src`'s alpha makes.
 ///
-/// As [`diffuse_lighting`], but `dest` pixels have a **premultiplied alpha**, which is the largest of
-/// their colours.
+/// As [`diffuse_lighting`], but the alpha of `dest` is the largest of its colours.
 ///
-/// Refused also: 5 where `specular_exponent` is not 1.
+/// # Errors
+///
+/// [`Refusal::Length`] where the sheets differ in size; [`Refusal::NotFinite`] and [`Refusal::Range`] of the
+/// numbers, as [`SpecularLighting`] and [`LightSource`] have them.
 ///
 /// ```
-/// use nuprikhen::lighting::{self, Color, LightSource};
+/// use nuprikhen::lighting::{self, Color, LightSource, SpecularLighting};
+/// use nuprikhen::{SheetMut, SheetRef, Straight};
 ///
-/// let white = Color { red: 255, green: 255, blue: 255 };
-/// let (src, mut dest) = ([0; 36], [9; 36]);
+/// let fe = SpecularLighting {
+///     surface_scale: 1.0,
+///     specular_constant: 1.0,
+///     specular_exponent: 1.0,
+///     lighting_color: Color { red: 255, green: 255, blue: 255 },
+/// };
+/// let src = SheetRef::<Straight>::new(3, 3, &[0; 36])?;
+/// let mut bytes = [9; 36];
 /// let below = LightSource::Distant(0.0, 0.0, -1.0);
-/// lighting::specular_lighting(below, 1.0, 1.0, 1.0, white, 3, 3, &src, &mut dest)?;
-/// assert_eq!(dest, [0; 36]);
+/// lighting::specular_lighting(&fe, below, src, SheetMut::new(3, 3, &mut bytes)?)?;
+/// assert_eq!(bytes, [0; 36]);
 /// # Ok::<(), nuprikhen::Refusal>(())
 /// ```
-#[allow(clippy::too_many_arguments)]
-pub fn specular_lighting(
-    light: LightSource,
-    surface_scale: f32,
-    specular_constant: f32,
-    specular_exponent: f32,
-    color: Color,
-    width: u32,
-    height: u32,
-    src: &[u8],
-    dest: &mut [u8],
+pub fn specular_lighting<K: SheetKind>(
+    fe: &SpecularLighting,
+    light_source: LightSource,
+    src: SheetRef<K>,
+    dest: SheetMut<Premultiplied>,
 ) -> Result<(), Refusal> {
-    let (kind, x, y, z) = light.parts();
+    src.is_of_size(dest.width(), dest.height())?;
+    let dest = dest.into_bytes();
+    let (kind, x, y, z) = light_source.parts();
     // SAFETY: both slices are borrowed for this call, `dest` alone, each with its own length.
     let answer = unsafe {
         library::nup_specular_lighting(
-            width,
-            height,
+            src.width(),
+            src.height(),
             kind,
             x,
             y,
             z,
-            surface_scale,
-            specular_constant,
-            specular_exponent,
-            color.red,
-            color.green,
-            color.blue,
-            src.as_ptr(),
-            src.len(),
+            fe.surface_scale,
+            fe.specular_constant,
+            fe.specular_exponent,
+            fe.lighting_color.red,
+            fe.lighting_color.green,
+            fe.lighting_color.blue,
+            src.bytes().as_ptr(),
+            src.bytes().len(),
             dest.as_mut_ptr(),
             dest.len(),
         )

@@ -1,84 +1,126 @@
 //! Why a call is turned away.
 
-use std::error::Error;
-use std::fmt;
+use core::error::Error;
+use core::fmt;
 
 /// Why a call was turned away. No lent byte has changed.
 ///
-/// The first test that fails gives the number:
-///
-/// | number | name | when |
-/// |---|---|---|
-/// | 1 | Size | width or height outside 1..=4,096 |
-/// | 2 | Length | a sheet or scratch is not exactly 4 x width x height bytes |
-/// | 3 | Shape | a matrix is not of 20 numbers, a table is over 256 entries, or a kernel has a wrong side, target or count |
-/// | 4 | NotFinite | a parameter is NaN or infinite |
-/// | 5 | Range | a finite parameter is outside its range |
-///
-/// Recipes have these too. They are tested 10, 6 (over 16 steps), 11, 1, 2, 6 (no steps), and step by step 7, 8, 3, 4, 5:
-///
-/// | number | name | when |
-/// |---|---|---|
-/// | 6 | Steps | no steps or over 16 |
-/// | 7 | Slot | a slot that the step cannot read or write |
-/// | 8 | Kind | an input of the wrong kind |
-/// | 10 | Malformed | the message has a wrong number at `offset` |
-/// | 11 | Room | over 16,384 numbers of matrices, tables and kernels |
+/// The first test that fails gives the answer. A single call is tested 1 to 5 of docs/LAW.md's numbers, a
+/// recipe 10, 6 (over 16 steps), 11, 1, 2, 6 (no steps), and step by step 7, 8, 3, 4, 5.
 ///
 /// ```
 /// use nuprikhen::color_matrix::{self, ColorMatrix};
+/// use nuprikhen::{Refusal, SheetMut};
 ///
-/// let mut src = [10, 20, 30, 255];
-/// let refusal = color_matrix::apply(&ColorMatrix::Saturate(f32::NAN), 1, 1, &mut src).unwrap_err();
-/// assert_eq!((refusal.number, refusal.name, refusal.step), (4, "NotFinite", 0));
+/// let mut bytes = [10, 20, 30, 255];
+/// let sheet = SheetMut::new(1, 1, &mut bytes)?;
+/// let refusal = color_matrix::apply(&ColorMatrix::Saturate(f32::NAN), sheet).unwrap_err();
+/// assert!(matches!(refusal, Refusal::NotFinite { .. }));
+/// assert_eq!((refusal.number(), refusal.name(), refusal.step()), (4, "NotFinite", None));
 /// assert_eq!(refusal.to_string(), "refused 4 (NotFinite): a parameter is NaN or infinite");
-/// assert_eq!(src, [10, 20, 30, 255]);
+/// assert_eq!(bytes, [10, 20, 30, 255]);
+/// # Ok::<(), Refusal>(())
+/// ```
+///
+/// A later version may have more reasons:
+///
+/// ```compile_fail,E0004
+/// # use nuprikhen::Refusal;
+/// fn of_a_sheet(refusal: Refusal) -> bool {
+///     match refusal {
+///         Refusal::Size | Refusal::Length => true,
+///         Refusal::Shape { .. } | Refusal::NotFinite { .. } | Refusal::Range { .. } => false,
+///         Refusal::Steps | Refusal::Slot { .. } | Refusal::Kind { .. } => false,
+///         Refusal::Malformed { .. } | Refusal::Room => false,
+///     }
+/// }
+/// ```
+///
+/// And what tells its place is made by the library alone:
+///
+/// ```compile_fail,E0639
+/// let refusal = nuprikhen::Refusal::Malformed { offset: 3 };
 /// ```
 #[derive(Clone, Copy, Debug, PartialEq, Eq, Hash)]
 #[non_exhaustive]
-pub struct Refusal {
-    /// The number of the test that failed.
-    pub number: u8,
-    /// Its short name.
-    pub name: &'static str,
-    /// The index of the refused step, from 0; 0 in a single call.
-    pub step: u8,
-    /// Of number 10, where in the message the wrong number begins; otherwise 0.
-    pub offset: u64,
-    /// The code of the refused step; 0 where it is not known.
+pub enum Refusal {
+    /// 1: width or height outside 1..=4,096.
+    Size,
+    /// 2: a sheet or scratch is not exactly 4 x width x height bytes, or two sheets differ in size.
+    Length,
+    /// 3: a matrix is not of 20 numbers, a table is over 256 entries, or a kernel has a wrong side,
+    /// target or count.
+    #[non_exhaustive]
+    Shape {
+        /// The step of a recipe; `None` in a single call.
+        step: Option<RefusedStep>,
+    },
+    /// 4: a parameter is NaN or infinite.
+    #[non_exhaustive]
+    NotFinite {
+        /// The step of a recipe; `None` in a single call.
+        step: Option<RefusedStep>,
+    },
+    /// 5: a finite parameter is outside its range.
+    #[non_exhaustive]
+    Range {
+        /// The step of a recipe; `None` in a single call.
+        step: Option<RefusedStep>,
+    },
+    /// 6: a recipe of no steps or of over 16.
+    Steps,
+    /// 7: a slot that the step cannot read or write.
+    #[non_exhaustive]
+    Slot {
+        /// The step of the recipe.
+        step: Option<RefusedStep>,
+    },
+    /// 8: an input of the wrong kind.
+    #[non_exhaustive]
+    Kind {
+        /// The step of the recipe.
+        step: Option<RefusedStep>,
+    },
+    /// 10: the message has a wrong number.
+    #[non_exhaustive]
+    Malformed {
+        /// Where in the message the wrong number begins.
+        offset: u64,
+    },
+    /// 11: over 16,384 numbers of matrices, tables and kernels.
+    Room,
+}
+
+/// The step of a recipe that is refused.
+#[derive(Clone, Copy, Debug, PartialEq, Eq, Hash)]
+pub struct RefusedStep {
+    index: u8,
+    /// The step's code of docs/MESSAGES.md; 0 where it is not known.
     code: u8,
 }
 
-/// Short names and what they say, from number 1 on.
-const TESTS: [(&str, &str); 11] = [
-    ("Size", "width or height outside 1..=4,096"),
-    (
-        "Length",
-        "a sheet or scratch is not exactly 4 x width x height bytes",
-    ),
-    (
-        "Shape",
-        "a matrix is not of 20 numbers, a table is over 256 entries, or a kernel is misshapen",
-    ),
-    ("NotFinite", "a parameter is NaN or infinite"),
-    ("Range", "a finite parameter is outside its range"),
-    ("Steps", "a recipe of 0 steps or over 16"),
-    (
-        "Slot",
-        "a step writes slot 1, 2 or 3, none that it reads, and reads slot 0 or what an earlier one wrote",
-    ),
-    ("Kind", "an input of the wrong kind"),
-    ("Unknown", "a number without a name"),
-    (
-        "Malformed",
-        "the bytes end early, a number is not in its shortest form or too large, a code is unknown, or bytes \
-         are left over",
-    ),
-    (
-        "Room",
-        "over 16,384 numbers of matrices, tables and kernels",
-    ),
-];
+impl RefusedStep {
+    #[cfg(feature = "alloc")]
+    pub(crate) fn new(index: u8, code: u8) -> RefusedStep {
+        RefusedStep { index, code }
+    }
+
+    /// Its index in the recipe, from 0.
+    #[must_use]
+    pub fn index(self) -> u8 {
+        self.index
+    }
+
+    /// The name of what it does, as "morphology".
+    #[must_use]
+    pub fn primitive(self) -> Option<&'static str> {
+        self.row().map(|primitive| primitive.name)
+    }
+
+    fn row(self) -> Option<&'static Primitive> {
+        PRIMITIVES.get(usize::from(self.code).wrapping_sub(1))
+    }
+}
 
 /// What the steps of a recipe take.
 struct Primitive {
@@ -152,54 +194,133 @@ const PRIMITIVES: [Primitive; 9] = [
     },
 ];
 
-/// The name and the words of a number.
-fn test(number: u8) -> (&'static str, &'static str) {
-    let index = usize::from(number).wrapping_sub(1);
-    *TESTS.get(index).unwrap_or(&TESTS[8])
-}
-
 impl Refusal {
-    /// Of a single call.
-    pub(crate) fn new(number: u8, step: u8) -> Refusal {
-        Refusal::of_recipe(number, step, 0, 0)
-    }
-
-    /// Of a recipe, with the code of the refused step.
-    pub(crate) fn of_recipe(number: u8, step: u8, offset: u64, code: u8) -> Refusal {
-        Refusal {
-            number,
-            name: test(number).0,
-            step,
-            offset,
-            code,
+    /// The refusal of a number, in a recipe with its step or its offset in the message.
+    pub(crate) fn of(number: u8, step: Option<RefusedStep>, offset: u64) -> Refusal {
+        match number {
+            1 => Refusal::Size,
+            2 => Refusal::Length,
+            3 => Refusal::Shape { step },
+            4 => Refusal::NotFinite { step },
+            6 => Refusal::Steps,
+            7 => Refusal::Slot { step },
+            8 => Refusal::Kind { step },
+            10 => Refusal::Malformed { offset },
+            11 => Refusal::Room,
+            // 5; the library gives no other, and one would be a number that names no case.
+            _ => Refusal::Range { step },
         }
     }
 
-    fn primitive(&self) -> Option<&'static Primitive> {
-        PRIMITIVES.get(usize::from(self.code).wrapping_sub(1))
+    /// The number of the test that failed, as docs/LAW.md and the C functions have it.
+    #[must_use]
+    pub fn number(&self) -> u8 {
+        match self {
+            Refusal::Size => 1,
+            Refusal::Length => 2,
+            Refusal::Shape { .. } => 3,
+            Refusal::NotFinite { .. } => 4,
+            Refusal::Range { .. } => 5,
+            Refusal::Steps => 6,
+            Refusal::Slot { .. } => 7,
+            Refusal::Kind { .. } => 8,
+            Refusal::Malformed { .. } => 10,
+            Refusal::Room => 11,
+        }
+    }
+
+    /// The short name, which is the variant's.
+    #[must_use]
+    pub fn name(&self) -> &'static str {
+        match self {
+            Refusal::Size => "Size",
+            Refusal::Length => "Length",
+            Refusal::Shape { .. } => "Shape",
+            Refusal::NotFinite { .. } => "NotFinite",
+            Refusal::Range { .. } => "Range",
+            Refusal::Steps => "Steps",
+            Refusal::Slot { .. } => "Slot",
+            Refusal::Kind { .. } => "Kind",
+            Refusal::Malformed { .. } => "Malformed",
+            Refusal::Room => "Room",
+        }
+    }
+
+    /// The index of the refused step of a recipe, from 0; `None` in a single call, and where the recipe
+    /// is refused as a whole (1, 2, 6, 10 and 11).
+    #[must_use]
+    pub fn step(&self) -> Option<u8> {
+        self.refused_step().map(RefusedStep::index)
+    }
+
+    /// Of [`Refusal::Malformed`], where in the message the wrong number begins.
+    #[must_use]
+    pub fn offset(&self) -> Option<u64> {
+        match *self {
+            Refusal::Malformed { offset } => Some(offset),
+            _ => None,
+        }
+    }
+
+    fn refused_step(&self) -> Option<RefusedStep> {
+        match *self {
+            Refusal::Shape { step }
+            | Refusal::NotFinite { step }
+            | Refusal::Range { step }
+            | Refusal::Slot { step }
+            | Refusal::Kind { step } => step,
+            _ => None,
+        }
     }
 
     /// What is wrong, in the words of the refused step where there are any.
     fn words(&self) -> &'static str {
-        let own = self.primitive().map(|primitive| match self.number {
-            3 => primitive.shape,
-            5 => primitive.range,
-            8 => primitive.kind,
+        let primitive = self.refused_step().and_then(RefusedStep::row);
+        let own = primitive.map(|primitive| match self {
+            Refusal::Shape { .. } => primitive.shape,
+            Refusal::Range { .. } => primitive.range,
+            Refusal::Kind { .. } => primitive.kind,
             _ => "",
         });
-        own.filter(|words| !words.is_empty())
-            .unwrap_or(test(self.number).1)
+        own.filter(|words| !words.is_empty()).unwrap_or(self.when())
+    }
+
+    /// What is wrong, of any call.
+    fn when(&self) -> &'static str {
+        match self {
+            Refusal::Size => "width or height outside 1..=4,096",
+            Refusal::Length => "a sheet or scratch is not exactly 4 x width x height bytes",
+            Refusal::Shape { .. } => {
+                "a matrix is not of 20 numbers, a table is over 256 entries, or a kernel is misshapen"
+            }
+            Refusal::NotFinite { .. } => "a parameter is NaN or infinite",
+            Refusal::Range { .. } => "a finite parameter is outside its range",
+            Refusal::Steps => "a recipe of 0 steps or over 16",
+            Refusal::Slot { .. } => {
+                "a step writes slot 1, 2 or 3, none that it reads, and reads slot 0 or what an earlier one \
+                 wrote"
+            }
+            Refusal::Kind { .. } => "an input of the wrong kind",
+            Refusal::Malformed { .. } => {
+                "the bytes end early, a number is not in its shortest form or too large, a code is unknown, \
+                 or bytes are left over"
+            }
+            Refusal::Room => "over 16,384 numbers of matrices, tables and kernels",
+        }
     }
 }
 
 impl fmt::Display for Refusal {
     fn fmt(&self, out: &mut fmt::Formatter) -> fmt::Result {
-        write!(out, "refused {} ({})", self.number, self.name)?;
-        match self.primitive() {
-            Some(primitive) => write!(out, " at step {}, {}", self.step, primitive.name)?,
-            None if self.step > 0 => write!(out, " at step {}", self.step)?,
-            None if self.number == 10 => write!(out, " at byte {}", self.offset)?,
-            None => {}
+        write!(out, "refused {} ({})", self.number(), self.name())?;
+        if let Some(step) = self.refused_step() {
+            write!(out, " at step {}", step.index)?;
+            if let Some(primitive) = step.primitive() {
+                write!(out, ", {primitive}")?;
+            }
+        }
+        if let Some(offset) = self.offset() {
+            write!(out, " at byte {offset}")?;
         }
         write!(out, ": {}", self.words())
     }
@@ -209,14 +330,14 @@ impl Error for Refusal {}
 
 #[cfg(test)]
 mod tests {
-    use super::Refusal;
+    use super::{Refusal, RefusedStep};
+    use std::string::ToString;
+
+    const STEP: Option<RefusedStep> = Some(RefusedStep { index: 3, code: 0 });
 
     #[test]
     fn every_number_has_a_name() {
-        let names: Vec<&str> = (0..=12)
-            .map(|number| Refusal::new(number, 0).name)
-            .collect();
-        let known = [
+        let names = [
             "Size",
             "Length",
             "Shape",
@@ -226,17 +347,50 @@ mod tests {
             "Slot",
             "Kind",
         ];
-        assert_eq!(names[1..9], known);
-        assert_eq!(names[10..12], ["Malformed", "Room"]);
-        assert_eq!([names[0], names[9], names[12]], ["Unknown"; 3]);
+        for (number, name) in (1..).zip(names).chain([(10, "Malformed"), (11, "Room")]) {
+            let refusal = Refusal::of(number, None, 0);
+            assert_eq!((refusal.number(), refusal.name()), (number, name));
+        }
+    }
+
+    #[test]
+    fn a_number_that_is_never_given_names_no_case() {
+        for number in [0, 9].into_iter().chain(12..=255) {
+            assert_eq!(Refusal::of(number, STEP, 7), Refusal::Range { step: STEP });
+        }
+    }
+
+    /// A step is told of 3, 4, 5, 7 and 8, an offset of 10.
+    #[test]
+    fn what_tells_its_place() {
+        for number in (1..=8).chain(10..=11) {
+            let refusal = Refusal::of(number, STEP, 7);
+            let step = [3, 4, 5, 7, 8].contains(&number).then_some(3);
+            assert_eq!(refusal.step(), step, "{number}");
+            assert_eq!(refusal.offset(), (number == 10).then_some(7), "{number}");
+            assert_eq!(Refusal::of(number, None, 7).step(), None, "{number}");
+        }
     }
 
     #[test]
     fn a_later_step_is_told() {
-        let told = Refusal::new(8, 3).to_string();
+        let told = Refusal::of(8, STEP, 0).to_string();
         assert_eq!(
             told,
             "refused 8 (Kind) at step 3: an input of the wrong kind"
+        );
+    }
+
+    #[test]
+    fn step_0_is_told_in_a_recipe() {
+        let step = |code| Some(RefusedStep { index: 0, code });
+        assert_eq!(
+            Refusal::of(4, step(9), 0).to_string(),
+            "refused 4 (NotFinite) at step 0, specular_lighting: a parameter is NaN or infinite"
+        );
+        assert_eq!(
+            Refusal::of(4, step(0), 0).to_string(),
+            "refused 4 (NotFinite) at step 0: a parameter is NaN or infinite"
         );
     }
 }

@@ -1,40 +1,58 @@
 //! resvg's turbulence.rs, without stitching.
 
-use crate::{Refusal, library};
+use crate::{Refusal, SheetMut, Straight, library};
 
-/// Applies a turbulence filter.
-///
-/// `dest` pixels will have an **unpremultiplied alpha**; every byte of it is written.
+/// A noise.
+#[derive(Clone, Copy, Debug, PartialEq)]
+pub struct Turbulence {
+    /// 0 to 16.
+    pub base_frequency_x: f64,
+    /// 0 to 16.
+    pub base_frequency_y: f64,
+    /// At most 8.
+    pub num_octaves: u32,
+    /// Any.
+    pub seed: i32,
+    /// Fractal noise, which lies round the middle; otherwise turbulence.
+    pub fractal_noise: bool,
+}
+
+/// Applies a turbulence filter; every byte of `dest` is written.
 ///
 /// - `offset_x` and `offset_y` indicate filter region offset.
 /// - `sx` and `sy` indicate canvas scale.
 ///
-/// Refused: 1, 2, 4, 5 (offsets -4,096 to 4,096, scales 1/16 to 16, frequencies 0 to 16, octaves at most 8).
+/// # Errors
+///
+/// [`Refusal::NotFinite`] and [`Refusal::Range`] of the numbers: offsets are -4,096 to 4,096, scales 1/16
+/// to 16, and those of [`Turbulence`] as it has them.
 ///
 /// ```
-/// use nuprikhen::turbulence;
+/// use nuprikhen::SheetMut;
+/// use nuprikhen::turbulence::{self, Turbulence};
 ///
 /// // No octave: fractal noise is the middle in every channel.
-/// let mut dest = [9; 4];
-/// turbulence::apply(0.0, 0.0, 1.0, 1.0, 0.05, 0.05, 0, 7, true, 1, 1, &mut dest)?;
-/// assert_eq!(dest, [128; 4]);
+/// let noise = Turbulence {
+///     base_frequency_x: 0.05,
+///     base_frequency_y: 0.05,
+///     num_octaves: 0,
+///     seed: 7,
+///     fractal_noise: true,
+/// };
+/// let mut bytes = [9; 4];
+/// turbulence::apply(&noise, 0.0, 0.0, 1.0, 1.0, SheetMut::new(1, 1, &mut bytes)?)?;
+/// assert_eq!(bytes, [128; 4]);
 /// # Ok::<(), nuprikhen::Refusal>(())
 /// ```
-#[allow(clippy::too_many_arguments)]
 pub fn apply(
+    fe: &Turbulence,
     offset_x: f64,
     offset_y: f64,
     sx: f64,
     sy: f64,
-    base_frequency_x: f64,
-    base_frequency_y: f64,
-    num_octaves: u32,
-    seed: i32,
-    fractal_noise: bool,
-    width: u32,
-    height: u32,
-    dest: &mut [u8],
+    dest: SheetMut<Straight>,
 ) -> Result<(), Refusal> {
+    let (width, height, dest) = (dest.width(), dest.height(), dest.into_bytes());
     // SAFETY: the slice is borrowed for this call alone, with its own length.
     let answer = unsafe {
         library::nup_turbulence(
@@ -44,12 +62,12 @@ pub fn apply(
             offset_y,
             sx,
             sy,
-            base_frequency_x,
-            base_frequency_y,
-            num_octaves,
-            seed,
+            fe.base_frequency_x,
+            fe.base_frequency_y,
+            fe.num_octaves,
+            fe.seed,
             0,
-            fractal_noise as u8,
+            fe.fractal_noise as u8,
             dest.as_mut_ptr(),
             dest.len(),
         )

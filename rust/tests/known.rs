@@ -3,7 +3,7 @@
 use nuprikhen::color_matrix::{self, ColorMatrix};
 use nuprikhen::component_transfer::{self, TransferFunction};
 use nuprikhen::morphology::{self, MorphologyOperator};
-use nuprikhen::{SIDE_LIMIT, composite};
+use nuprikhen::{SIDE_LIMIT, SheetMut, SheetRef, composite};
 
 /// The alphas of a row after morphology; scratch, lent full of 7, is all zero afterwards.
 fn morphed(operator: MorphologyOperator, rx: f32, alphas: [u8; 3]) -> [u8; 3] {
@@ -12,7 +12,8 @@ fn morphed(operator: MorphologyOperator, rx: f32, alphas: [u8; 3]) -> [u8; 3] {
     for (pixel, alpha) in src.chunks_exact_mut(4).zip(alphas) {
         pixel[3] = alpha;
     }
-    morphology::apply(operator, rx, 0.0, 3, 1, &mut src, &mut scratch).expect("done");
+    let sheet = SheetMut::new(3, 1, &mut src).expect("a sheet");
+    morphology::apply(operator, rx, 0.0, sheet, &mut scratch).expect("done");
     assert_eq!(scratch, [0; 12]);
     [src[3], src[7], src[11]]
 }
@@ -35,27 +36,31 @@ fn radii_round_half_away_from_zero() {
     assert_eq!(dilated(0.49999997), alphas);
 }
 
+/// Two clear pixels composed with each other.
+fn composed(k: [f32; 4]) -> [u8; 8] {
+    let clear = SheetRef::new(2, 1, &[0; 8]).expect("a sheet");
+    let mut bytes = [9; 8];
+    let dest = SheetMut::new(2, 1, &mut bytes).expect("a sheet");
+    composite::arithmetic(k[0], k[1], k[2], k[3], clear, clear, dest).expect("done");
+    bytes
+}
+
 #[test]
 fn arithmetic_is_cut() {
-    let clear = [0; 8];
-    let mut dest = [9; 8];
-    composite::arithmetic(0.0, 0.0, 0.0, 0.5, 2, 1, &clear, &clear, &mut dest).expect("done");
-    assert_eq!(dest, [127; 8]);
+    assert_eq!(composed([0.0, 0.0, 0.0, 0.5]), [127; 8]);
 }
 
 #[test]
 fn arithmetic_clears_where_alpha_is_zero() {
-    let clear = [0; 8];
-    let mut dest = [9; 8];
-    composite::arithmetic(0.0, 1.0, 1.0, 0.0, 2, 1, &clear, &clear, &mut dest).expect("done");
-    assert_eq!(dest, clear);
+    assert_eq!(composed([0.0, 1.0, 1.0, 0.0]), [0; 8]);
 }
 
 #[test]
 fn each_color_matrix() {
     let after = |matrix: ColorMatrix| {
         let mut src = [255, 0, 0, 99];
-        color_matrix::apply(&matrix, 1, 1, &mut src).expect("done");
+        let sheet = SheetMut::new(1, 1, &mut src).expect("a sheet");
+        color_matrix::apply(&matrix, sheet).expect("done");
         src
     };
     let mut turned = [0.0; 20];
@@ -65,14 +70,32 @@ fn each_color_matrix() {
     assert_eq!(after(ColorMatrix::Matrix(&turned)), [0, 0, 255, 99]);
     assert_eq!(after(ColorMatrix::Saturate(0.0)), [54, 54, 54, 99]);
     assert_eq!(after(ColorMatrix::Saturate(-1.0)), [54, 54, 54, 99]);
-    assert_eq!(after(ColorMatrix::HueRotate(1.0, 0.0)), [255, 0, 0, 99]);
+    let [cosine, sine] = [1.0, 0.0];
+    let none = ColorMatrix::HueRotate { cosine, sine };
+    assert_eq!(after(none), [255, 0, 0, 99]);
+    assert_eq!(after(ColorMatrix::hue_rotate_degrees(0.0)), [255, 0, 0, 99]);
     assert_eq!(after(ColorMatrix::LuminanceToAlpha), [0, 0, 0, 54]);
+}
+
+/// The pair of an angle in `f32`, as resvg works it out.
+#[test]
+fn a_hue_in_degrees() {
+    for degrees in [0.0, 1.0, 30.0, 90.0, -120.5, 359.0, 1e9] {
+        let angle = f32::to_radians(degrees);
+        let (cosine, sine) = (angle.cos(), angle.sin());
+        let pair = ColorMatrix::HueRotate { cosine, sine };
+        assert_eq!(ColorMatrix::hue_rotate_degrees(degrees), pair);
+        let mut src = [200, 100, 50, 99];
+        let sheet = SheetMut::new(1, 1, &mut src).expect("a sheet");
+        assert_eq!(color_matrix::apply(&pair, sheet), Ok(()), "{degrees}");
+    }
 }
 
 /// A pixel after the same function in all four channels.
 fn transferred(function: TransferFunction, mut src: [u8; 4]) -> [u8; 4] {
     let f = &function;
-    component_transfer::apply(f, f, f, f, 1, 1, &mut src).expect("done");
+    let sheet = SheetMut::new(1, 1, &mut src).expect("a sheet");
+    component_transfer::apply(f, f, f, f, sheet).expect("done");
     src
 }
 
@@ -113,7 +136,8 @@ fn each_channel_has_its_function() {
     for channel in 0..4 {
         let [r, g, b, a] = [0, 1, 2, 3].map(|i| if i == channel { &one } else { &zero });
         let mut src = [9; 4];
-        component_transfer::apply(r, g, b, a, 1, 1, &mut src).expect("done");
+        let sheet = SheetMut::new(1, 1, &mut src).expect("a sheet");
+        component_transfer::apply(r, g, b, a, sheet).expect("done");
         let expected = [0, 1, 2, 3].map(|i| if i == channel { 255 } else { 0 });
         assert_eq!(src, expected);
     }
@@ -125,9 +149,10 @@ fn sides_from_one_to_the_limit() {
         for (width, height) in [(side, 1), (1, side)] {
             let mut src = vec![5; 4 * side as usize];
             let mut scratch = vec![7; src.len()];
-            let (dilate, rx) = (MorphologyOperator::Dilate, 1.0);
-            let told = morphology::apply(dilate, rx, rx, width, height, &mut src, &mut scratch);
-            assert_eq!(told.map_or_else(|refusal| refusal.number, |()| 0), number);
+            let told = SheetMut::new(width, height, &mut src).and_then(|sheet| {
+                morphology::apply(MorphologyOperator::Dilate, 1.0, 1.0, sheet, &mut scratch)
+            });
+            assert_eq!(told.map_or_else(|refusal| refusal.number(), |()| 0), number);
             assert!(
                 scratch
                     .iter()
@@ -142,7 +167,7 @@ fn sides_from_one_to_the_limit() {
 #[test]
 fn the_largest_sheet() {
     let mut src = vec![255; 4 * (SIDE_LIMIT * SIDE_LIMIT) as usize];
-    let matrix = ColorMatrix::LuminanceToAlpha;
-    color_matrix::apply(&matrix, SIDE_LIMIT, SIDE_LIMIT, &mut src).expect("done");
+    let sheet = SheetMut::new(SIDE_LIMIT, SIDE_LIMIT, &mut src).expect("a sheet");
+    color_matrix::apply(&ColorMatrix::LuminanceToAlpha, sheet).expect("done");
     assert!(src.chunks_exact(4).all(|pixel| pixel == [0, 0, 0, 254]));
 }

@@ -1,6 +1,5 @@
 //! Recipes: their bytes both ways, runs beside single calls, and every refusal in words.
 
-use nuprikhen::Refusal;
 use nuprikhen::color_matrix::{self, ColorMatrix};
 use nuprikhen::component_transfer::TransferFunction;
 use nuprikhen::convolve_matrix::{self, ConvolveMatrix, EdgeMode};
@@ -8,6 +7,7 @@ use nuprikhen::displacement_map::ColorChannel;
 use nuprikhen::lighting::{Color, LightSource};
 use nuprikhen::morphology::{self, MorphologyOperator};
 use nuprikhen::recipe::{Kind, Recipe, Sheets};
+use nuprikhen::{Refusal, SheetMut};
 
 const WHITE: Color = Color {
     red: 255,
@@ -17,7 +17,7 @@ const WHITE: Color = Color {
 const IDENTITY: TransferFunction = TransferFunction::Identity;
 
 /// A kernel of one row.
-fn row(matrix: &[f32], preserve_alpha: bool) -> ConvolveMatrix<'_> {
+fn row(matrix: &[f32]) -> ConvolveMatrix<'_> {
     ConvolveMatrix {
         columns: matrix.len() as u32,
         rows: 1,
@@ -27,7 +27,6 @@ fn row(matrix: &[f32], preserve_alpha: bool) -> ConvolveMatrix<'_> {
         divisor: 1.0,
         bias: 0.0,
         edge_mode: EdgeMode::Wrap,
-        preserve_alpha,
     }
 }
 
@@ -38,6 +37,8 @@ fn dilate(recipe: Recipe, input: u32, output: u32) -> Recipe {
 /// Steps of every code and of every kind within them.
 fn every_step() -> Vec<Recipe> {
     let matrix = ColorMatrix::Matrix(&[0.25; 20]);
+    let [cosine, sine] = [0.6, 0.8];
+    let hue = ColorMatrix::HueRotate { cosine, sine };
     let table = TransferFunction::Table(&[0.0, 0.5, 1.0]);
     let discrete = TransferFunction::Discrete(&[]);
     let linear = TransferFunction::Linear {
@@ -54,11 +55,12 @@ fn every_step() -> Vec<Recipe> {
         dilate(new(), 0, 1),
         new().color_matrix(0, 1, &matrix),
         new().color_matrix(0, 1, &ColorMatrix::Saturate(0.5)),
-        new().color_matrix(0, 1, &ColorMatrix::HueRotate(0.6, 0.8)),
+        new().color_matrix(0, 1, &hue),
         new().color_matrix(0, 1, &ColorMatrix::LuminanceToAlpha),
         new().component_transfer(0, 1, &table, &discrete, &linear, &IDENTITY),
         new().arithmetic(0, 1, 2, 0.5, 1.0, -1.0, 0.25),
-        new().convolve_matrix(0, 1, &row(&[1.0, 2.0], false)),
+        new().convolve_matrix(0, 1, &row(&[1.0, 2.0])),
+        new().convolve_matrix_preserving_alpha(0, 1, &row(&[1.0, 2.0])),
         new().displacement_map(0, 1, 2, x, y, 1.0, -1.0, 20.0),
         new().turbulence(1, 0.5, -0.5, 1.0, 2.0, 0.05, 0.1, 3, -7, true),
         new().diffuse_lighting(0, 1, far, 5.0, 1.0, WHITE),
@@ -92,7 +94,7 @@ fn the_documents_examples() {
         target_x: 1,
         divisor: 4.0,
         edge_mode: EdgeMode::Duplicate,
-        ..row(&[1.0, 3.0], false)
+        ..row(&[1.0, 3.0])
     };
     let (r, a) = (ColorChannel::R, ColorChannel::A);
     let color = |red, green, blue| Color { red, green, blue };
@@ -157,10 +159,10 @@ fn source() -> Vec<u8> {
 /// A run is the single calls in a row; every slot, and scratch, is told.
 #[test]
 fn a_run_is_its_steps_in_a_row() -> Result<(), Refusal> {
-    let (kernel, grey) = (row(&[1.0], true), ColorMatrix::Saturate(0.25));
+    let (kernel, grey) = (row(&[1.0]), ColorMatrix::Saturate(0.25));
     let recipe = Recipe::new()
         .color_matrix(0, 2, &grey)
-        .convolve_matrix(2, 1, &kernel);
+        .convolve_matrix_preserving_alpha(2, 1, &kernel);
     let recipe = dilate(recipe, 1, 2);
     let mut sheets = Sheets::new(Kind::Straight, 7, 5, source());
     sheets.slots[2].fill(33);
@@ -168,11 +170,13 @@ fn a_run_is_its_steps_in_a_row() -> Result<(), Refusal> {
     let result = recipe.run(&mut sheets)?.to_vec();
 
     let (mut one, mut scratch) = (source(), vec![1; 140]);
-    color_matrix::apply(&grey, 7, 5, &mut one)?;
-    convolve_matrix::apply(&kernel, 7, 5, &mut one, &mut scratch)?;
-    let mut two = one.clone();
+    let mut straight = SheetMut::new(7, 5, &mut one)?;
+    color_matrix::apply(&grey, straight.reborrow())?;
+    let sheet = convolve_matrix::apply_preserving_alpha(&kernel, straight, &mut scratch)?;
+    let mut two = sheet.bytes().to_vec();
     let operator = MorphologyOperator::Dilate;
-    morphology::apply(operator, 1.0, 1.0, 7, 5, &mut two, &mut scratch)?;
+    let sheet = SheetMut::new(7, 5, &mut two)?;
+    morphology::apply(operator, 1.0, 1.0, sheet, &mut scratch)?;
     assert_eq!(result, two);
     assert_eq!(sheets.slots, [one, two, vec![33; 140]]);
     assert_eq!((sheets.source, sheets.scratch), (source(), vec![0; 140]));
@@ -198,7 +202,9 @@ fn sizes_lengths_and_counts() {
     let one = dilate(Recipe::new(), 0, 1);
     let said = |width: u32, height: u32, recipe: &Recipe| {
         let sheets = Sheets::new(Kind::Premultiplied, width, height, source());
-        refused_of(recipe, sheets).to_string()
+        let refusal = refused_of(recipe, sheets);
+        assert_eq!((refusal.step(), refusal.offset()), (None, None));
+        refusal.to_string()
     };
     let size = "refused 1 (Size): width or height outside 1..=4,096";
     assert_eq!(said(0, 5, &one), size);
@@ -212,6 +218,14 @@ fn sizes_lengths_and_counts() {
     assert_eq!(said(0, 0, &seventeen), steps);
     let refusal = Recipe::from_bytes(&seventeen.to_bytes()).expect_err("a refusal");
     assert_eq!(refusal.to_string(), steps);
+}
+
+/// A matrix of so many numbers, all 0.0, from slot 0 to slot 1: only a message has other than 20.
+fn of_matrix(count: u8) -> Recipe {
+    let message = [&[1, 2, 0, 1, 0, count][..], &vec![0; count.into()]].concat();
+    let recipe = Recipe::from_bytes(&message).expect("a message");
+    assert_eq!(recipe.to_bytes(), message);
+    recipe
 }
 
 #[test]
@@ -232,11 +246,13 @@ fn a_step_is_refused_in_its_own_words() {
         Kind::Straight,
         "refused 8 (Kind) at step 0, morphology: the input must be premultiplied",
     );
-    see(
-        new().color_matrix(0, 1, &ColorMatrix::Matrix(&[0.0; 21])),
-        Kind::Straight,
-        "refused 3 (Shape) at step 0, color_matrix: a matrix has 20 numbers",
-    );
+    for count in [0, 1, 19, 21, 40] {
+        see(
+            of_matrix(count),
+            Kind::Straight,
+            "refused 3 (Shape) at step 0, color_matrix: a matrix has 20 numbers",
+        );
+    }
     see(
         new().arithmetic(0, 0, 1, f32::NAN, 0.0, 0.0, 1e9),
         kind,
@@ -248,6 +264,41 @@ fn a_step_is_refused_in_its_own_words() {
         "refused 5 (Range) at step 1, turbulence: offsets are -4,096 to 4,096, scales 1/16 to 16, frequencies 0 \
          to 16, octaves at most 8",
     );
+}
+
+/// A wrong step told by number, index and name, as the first step and as the second.
+#[test]
+fn the_refused_step_is_told() {
+    let misshapen = ConvolveMatrix {
+        rows: 2,
+        ..row(&[1.0])
+    };
+    type Add<'a> = &'a dyn Fn(Recipe) -> Recipe;
+    let add: [(u8, &str, Add); 5] = [
+        (3, "convolve_matrix", &|to| {
+            to.convolve_matrix(0, 2, &misshapen)
+        }),
+        (4, "arithmetic", &|to| {
+            to.arithmetic(0, 0, 2, f32::NAN, 0.0, 0.0, 0.0)
+        }),
+        (5, "morphology", &|to| {
+            to.morphology(0, 2, MorphologyOperator::Erode, -1.0, 0.0)
+        }),
+        (7, "morphology", &|to| dilate(to, 0, 0)),
+        (8, "color_matrix", &|to| {
+            to.color_matrix(0, 2, &ColorMatrix::LuminanceToAlpha)
+        }),
+    ];
+    for (number, name, add) in add {
+        let first = [Recipe::new(), dilate(Recipe::new(), 0, 1)];
+        for (step, before) in (0..).zip(first) {
+            let refusal = refused(&add(before), Kind::Premultiplied);
+            assert_eq!((refusal.number(), refusal.step()), (number, Some(step)));
+            assert_eq!(refusal.offset(), None);
+            let place = format!(" at step {step}, {name}: ");
+            assert!(refusal.to_string().contains(&place), "{refusal}");
+        }
+    }
 }
 
 /// A recipe of sixteen steps of four tables, all of `length` entries.
@@ -265,7 +316,9 @@ fn as_many_numbers_as_there_is_room_for() {
     let result = tables(256).run(&mut sheets).map(<[u8]>::to_vec);
     assert_eq!(result, Ok(vec![127; 140]));
     let said = "refused 11 (Room): over 16,384 numbers of matrices, tables and kernels";
-    assert_eq!(refused(&tables(257), Kind::Straight).to_string(), said);
+    let refusal = refused(&tables(257), Kind::Straight);
+    assert_eq!((refusal, refusal.step()), (Refusal::Room, None));
+    assert_eq!(refusal.to_string(), said);
     let refusal = Recipe::from_bytes(&tables(257).to_bytes()).expect_err("a refusal");
     assert_eq!(refusal.to_string(), said);
 }
@@ -275,10 +328,12 @@ fn a_wrong_message_tells_its_place() {
     let message = dilate(Recipe::new(), 0, 1).to_bytes();
     let offset = |message: &[u8]| {
         let refusal = Recipe::from_bytes(message).expect_err("a refusal");
-        assert_eq!((refusal.number, refusal.name), (10, "Malformed"));
-        let told = format!("refused 10 (Malformed) at byte {}: ", refusal.offset);
+        assert_eq!((refusal.number(), refusal.name()), (10, "Malformed"));
+        assert_eq!(refusal.step(), None);
+        let offset = refusal.offset().expect("an offset");
+        let told = format!("refused 10 (Malformed) at byte {offset}: ");
         assert!(refusal.to_string().starts_with(&told));
-        refusal.offset
+        offset
     };
     assert_eq!(offset(&[]), 0);
     assert_eq!(offset(&message[..7]), 5);

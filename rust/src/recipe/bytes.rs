@@ -1,6 +1,8 @@
 //! The form of messages: how a step is written, and where in a message a step ends.
 
 use crate::lighting::{Color, LightSource};
+use alloc::vec;
+use alloc::vec::Vec;
 
 /// A step's bytes: its code, inputs and output, then its parameters.
 #[derive(Clone, Debug, PartialEq, Eq, Hash)]

@@ -12,7 +12,8 @@ use crate::displacement_map::ColorChannel;
 use crate::library::{self, ReachAnswer, RunAnswer};
 use crate::lighting::{Color, LightSource};
 use crate::morphology::MorphologyOperator;
-use crate::refusal::Refusal;
+use crate::{Refusal, RefusedStep};
+use alloc::vec::Vec;
 use bytes::Step;
 
 /// Up to 16 steps. Each reads one or two slots, or none, and writes another.
@@ -41,6 +42,7 @@ use bytes::Step;
 /// # Ok::<(), nuprikhen::Refusal>(())
 /// ```
 #[derive(Clone, Debug, Default, PartialEq, Eq, Hash)]
+#[must_use = "a recipe does nothing until it is run or written"]
 pub struct Recipe {
     steps: Vec<Step>,
 }
@@ -97,7 +99,7 @@ impl Recipe {
         self.with(match *matrix {
             ColorMatrix::Matrix(numbers) => step.number(0).list(numbers),
             ColorMatrix::Saturate(v) => step.number(1).floats(&[v]),
-            ColorMatrix::HueRotate(cosine, sine) => step.number(2).floats(&[cosine, sine]),
+            ColorMatrix::HueRotate { cosine, sine } => step.number(2).floats(&[cosine, sine]),
             ColorMatrix::LuminanceToAlpha => step.number(3),
         })
     }
@@ -161,8 +163,32 @@ impl Recipe {
         self.with(step.floats(&[k1, k2, k3, k4]))
     }
 
-    /// Adds a convolve matrix; the input is premultiplied, or straight where alpha is preserved, and the output
-    /// is premultiplied.
+    /// Adds a convolve matrix; the input is premultiplied, as is the output.
+    ///
+    /// ```
+    /// use nuprikhen::convolve_matrix::{ConvolveMatrix, EdgeMode};
+    /// use nuprikhen::recipe::{Kind, Recipe, Sheets};
+    ///
+    /// let mean = ConvolveMatrix {
+    ///     columns: 2,
+    ///     rows: 1,
+    ///     target_x: 0,
+    ///     target_y: 0,
+    ///     matrix: &[1.0; 2],
+    ///     divisor: 2.0,
+    ///     bias: 0.0,
+    ///     edge_mode: EdgeMode::Wrap,
+    /// };
+    /// let blurred = Recipe::new().convolve_matrix(0, 1, &mean);
+    /// let mut sheets = Sheets::new(Kind::Premultiplied, 2, 1, [0, 0, 0, 0, 0, 100, 0, 200]);
+    /// assert_eq!(blurred.run(&mut sheets)?, [0, 50, 0, 100, 0, 50, 0, 100]);
+    /// # Ok::<(), nuprikhen::Refusal>(())
+    /// ```
+    pub fn convolve_matrix(self, input: u32, output: u32, matrix: &ConvolveMatrix) -> Recipe {
+        self.convolved(input, output, matrix, false)
+    }
+
+    /// Adds a convolve matrix that preserves alpha; the input is straight, and the output is premultiplied.
     ///
     /// ```
     /// use nuprikhen::convolve_matrix::{ConvolveMatrix, EdgeMode};
@@ -178,14 +204,28 @@ impl Recipe {
     ///     divisor: 1.0,
     ///     bias: 0.0,
     ///     edge_mode: EdgeMode::None,
-    ///     preserve_alpha: true,
     /// };
-    /// let premultiplied = Recipe::new().convolve_matrix(0, 1, &one);
+    /// let premultiplied = Recipe::new().convolve_matrix_preserving_alpha(0, 1, &one);
     /// let mut sheets = Sheets::new(Kind::Straight, 1, 1, [200, 100, 0, 51]);
     /// assert_eq!(premultiplied.run(&mut sheets)?, [40, 20, 0, 51]);
     /// # Ok::<(), nuprikhen::Refusal>(())
     /// ```
-    pub fn convolve_matrix(self, input: u32, output: u32, matrix: &ConvolveMatrix) -> Recipe {
+    pub fn convolve_matrix_preserving_alpha(
+        self,
+        input: u32,
+        output: u32,
+        matrix: &ConvolveMatrix,
+    ) -> Recipe {
+        self.convolved(input, output, matrix, true)
+    }
+
+    fn convolved(
+        self,
+        input: u32,
+        output: u32,
+        matrix: &ConvolveMatrix,
+        preserve_alpha: bool,
+    ) -> Recipe {
         let step = Step::new(5, &[input, output])
             .number(matrix.columns)
             .number(matrix.rows)
@@ -194,7 +234,7 @@ impl Recipe {
             .list(matrix.matrix)
             .floats(&[matrix.divisor, matrix.bias])
             .number(matrix.edge_mode as u32)
-            .number(matrix.preserve_alpha.into());
+            .number(preserve_alpha.into());
         self.with(step)
     }
 
@@ -327,14 +367,17 @@ impl Recipe {
     /// let recipe = Recipe::new().color_matrix(0, 1, &ColorMatrix::LuminanceToAlpha);
     /// assert_eq!(recipe.to_bytes(), [1, 2, 0, 1, 3]);
     /// ```
+    #[must_use]
     pub fn to_bytes(&self) -> Vec<u8> {
         bytes::joined(&self.steps)
     }
 
     /// The recipe of a message, which keeps every byte of it.
     ///
-    /// Refused: 10 (the form; `offset` is where the wrong number begins), then 6 (over 16 steps), then 11 (over
-    /// 16,384 numbers of matrices, tables and kernels).
+    /// # Errors
+    ///
+    /// [`Refusal::Malformed`] of the form, then [`Refusal::Steps`] of over 16 steps, then [`Refusal::Room`] of
+    /// over 16,384 numbers of matrices, tables and kernels.
     ///
     /// ```
     /// use nuprikhen::recipe::Recipe;
@@ -343,7 +386,7 @@ impl Recipe {
     /// assert_eq!(Recipe::from_bytes(&message)?.to_bytes(), message);
     ///
     /// let refusal = Recipe::from_bytes(&[1, 2, 0, 1, 4]).unwrap_err();
-    /// assert_eq!((refusal.number, refusal.offset), (10, 4));
+    /// assert_eq!((refusal.number(), refusal.offset()), (10, Some(4)));
     /// # Ok::<(), nuprikhen::Refusal>(())
     /// ```
     pub fn from_bytes(message: &[u8]) -> Result<Recipe, Refusal> {
@@ -358,7 +401,7 @@ impl Recipe {
         };
         let answer = reached(message, &sheets);
         match answer.number {
-            6 | 10 | 11 => Err(Refusal::of_recipe(answer.number, 0, answer.offset, 0)),
+            6 | 10 | 11 => Err(Refusal::of(answer.number, None, answer.offset)),
             _ => Ok(Recipe {
                 steps: bytes::split(message),
             }),
@@ -370,7 +413,11 @@ impl Recipe {
     /// Afterwards each slot that steps wrote holds the last one's output, the others are unchanged, and scratch
     /// is all zero. What stood in slots 1 to 3 before is never read.
     ///
-    /// Refused: 6 over 16 steps, 11, 1, 2, 6 of no steps, and step by step 7, 8, 3, 4, 5. See [`Refusal`].
+    /// # Errors
+    ///
+    /// [`Refusal::Steps`] of over 16 steps, [`Refusal::Room`], [`Refusal::Size`] and [`Refusal::Length`] of the
+    /// sheets, [`Refusal::Steps`] of no steps, and step by step [`Refusal::Slot`], [`Refusal::Kind`],
+    /// [`Refusal::Shape`], [`Refusal::NotFinite`], [`Refusal::Range`].
     ///
     /// ```
     /// use nuprikhen::morphology::MorphologyOperator::Dilate;
@@ -411,7 +458,9 @@ impl Recipe {
     /// Whether some byte of the result draws on the source. Nothing is written, and what the sheets hold does not
     /// matter.
     ///
-    /// Refused as [`Recipe::run`] is.
+    /// # Errors
+    ///
+    /// As of [`Recipe::run`].
     ///
     /// ```
     /// use nuprikhen::morphology::MorphologyOperator::Dilate;
@@ -444,11 +493,8 @@ impl Recipe {
 
     /// A refusal that knows what the refused step does.
     fn refusal(&self, number: u8, step: u8, offset: u64) -> Refusal {
-        let code = match number {
-            3 | 4 | 5 | 7 | 8 => self.steps.get(usize::from(step)).map_or(0, Step::code),
-            _ => 0,
-        };
-        Refusal::of_recipe(number, step, offset, code)
+        let code = self.steps.get(usize::from(step)).map_or(0, Step::code);
+        Refusal::of(number, Some(RefusedStep::new(step, code)), offset)
     }
 }
 

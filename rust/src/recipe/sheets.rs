@@ -1,5 +1,8 @@
 //! What a run is lent.
 
+use alloc::vec;
+use alloc::vec::Vec;
+
 /// How the colours of a sheet stand to its alpha.
 #[derive(Clone, Copy, Debug, PartialEq, Eq, Hash)]
 pub enum Kind {
