@@ -56,7 +56,7 @@ pub struct DisplacementMap {
 /// # Ok::<(), nuprikhen::Refusal>(())
 /// ```
 ///
-/// A map is straight, and the kind of a picture stays:
+/// A picture keeps its kind:
 ///
 /// ```compile_fail,E0308
 /// # use nuprikhen::displacement_map::{self, DisplacementMap};

@@ -55,3 +55,8 @@ pub use sheet::{Premultiplied, SheetKind, SheetMut, SheetRef, Straight};
 
 /// The longest side of a sheet.
 pub const SIDE_LIMIT: u32 = 4096;
+
+/// The README, whose blocks are tests.
+#[cfg(all(doctest, feature = "std"))]
+#[doc = include_str!("../README.md")]
+struct Readme;

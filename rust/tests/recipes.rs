@@ -1,5 +1,7 @@
 //! Recipes: their bytes both ways, runs beside single calls, and every refusal in words.
 
+#![cfg(feature = "alloc")]
+
 use nuprikhen::color_matrix::{self, ColorMatrix};
 use nuprikhen::component_transfer::TransferFunction;
 use nuprikhen::convolve_matrix::{self, ConvolveMatrix, EdgeMode};
