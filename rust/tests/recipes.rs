@@ -222,12 +222,25 @@ fn sizes_lengths_and_counts() {
     assert_eq!(refusal.to_string(), steps);
 }
 
-/// A matrix of so many numbers, all 0.0, from slot 0 to slot 1: only a message has other than 20.
+/// A matrix of so many NaNs, from slot 0 to slot 1: only a message has other than 20 numbers.
 fn of_matrix(count: u8) -> Recipe {
-    let message = [&[1, 2, 0, 1, 0, count][..], &vec![0; count.into()]].concat();
+    let numbers = [0x80, 0x80, 0x80, 0xfe, 0x07].repeat(count.into());
+    let message = [&[1, 2, 0, 1, 0, count][..], &numbers].concat();
     let recipe = Recipe::from_bytes(&message).expect("a message");
     assert_eq!(recipe.to_bytes(), message);
     recipe
+}
+
+/// Test 3 comes before test 4.
+#[test]
+fn a_matrix_has_20_numbers() {
+    let shape = "refused 3 (Shape) at step 0, color_matrix: a matrix has 20 numbers";
+    for count in [0, 1, 19, 21, 40] {
+        let refusal = refused(&of_matrix(count), Kind::Straight);
+        assert_eq!(refusal.to_string(), shape, "{count}");
+    }
+    let nan = "refused 4 (NotFinite) at step 0, color_matrix: a parameter is NaN or infinite";
+    assert_eq!(refused(&of_matrix(20), Kind::Straight).to_string(), nan);
 }
 
 #[test]
@@ -248,13 +261,6 @@ fn a_step_is_refused_in_its_own_words() {
         Kind::Straight,
         "refused 8 (Kind) at step 0, morphology: the input must be premultiplied",
     );
-    for count in [0, 1, 19, 21, 40] {
-        see(
-            of_matrix(count),
-            Kind::Straight,
-            "refused 3 (Shape) at step 0, color_matrix: a matrix has 20 numbers",
-        );
-    }
     see(
         new().arithmetic(0, 0, 1, f32::NAN, 0.0, 0.0, 1e9),
         kind,
