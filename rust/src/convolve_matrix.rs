@@ -114,9 +114,9 @@ pub fn apply(
 ///
 /// ```compile_fail,E0308
 /// # use nuprikhen::convolve_matrix::{self, ConvolveMatrix};
-/// # use nuprikhen::{Premultiplied, Refusal, SheetMut};
-/// fn twice(matrix: &ConvolveMatrix, src: SheetMut<Premultiplied>, scratch: &mut [u8]) -> Result<(), Refusal> {
-///     convolve_matrix::apply_preserving_alpha(matrix, src, scratch).map(|_| ())
+/// # use nuprikhen::{Premultiplied, SheetMut};
+/// fn convolved(matrix: &ConvolveMatrix, src: SheetMut<Premultiplied>, scratch: &mut [u8]) {
+///     convolve_matrix::apply_preserving_alpha(matrix, src, scratch).unwrap();
 /// }
 /// ```
 pub fn apply_preserving_alpha<'a>(

@@ -60,9 +60,9 @@ pub struct DisplacementMap {
 ///
 /// ```compile_fail,E0308
 /// # use nuprikhen::displacement_map::{self, DisplacementMap};
-/// # use nuprikhen::{Premultiplied, Refusal, SheetMut, SheetRef, Straight};
-/// fn moved(fe: &DisplacementMap, src: SheetRef<Straight>, dest: SheetMut<Premultiplied>) -> Result<(), Refusal> {
-///     displacement_map::apply(fe, 1.0, 1.0, src, src, dest)
+/// # use nuprikhen::{Premultiplied, SheetMut, SheetRef, Straight};
+/// fn moved(fe: &DisplacementMap, src: SheetRef<Straight>, dest: SheetMut<Premultiplied>) {
+///     displacement_map::apply(fe, 1.0, 1.0, src, src, dest).unwrap();
 /// }
 /// ```
 pub fn apply<K: SheetKind>(

@@ -144,8 +144,8 @@ const PRIMITIVES: [Primitive; 9] = [
     Primitive {
         name: "color_matrix",
         shape: "a matrix has 20 numbers",
-        range: "a matrix and a saturation are -65,536 to 65,536, and the squares of a cosine and a sine sum to 1, \
-                up to 1/1,024",
+        range: "a matrix and a saturation are -65,536 to 65,536, and the squares of a cosine and a sine sum \
+                to 1, up to 1/1,024",
         kind: "the input must be straight",
     },
     Primitive {
@@ -181,8 +181,8 @@ const PRIMITIVES: [Primitive; 9] = [
     Primitive {
         name: "diffuse_lighting",
         shape: "",
-        range: "surface_scale is -256 to 256, diffuse_constant 0 to 256, a light's place -65,536 to 65,536, and the \
-                squares of its direction sum to 1, up to 1/1,024",
+        range: "surface_scale is -256 to 256, diffuse_constant 0 to 256, a light's place -65,536 to 65,536, \
+                and the squares of its direction sum to 1, up to 1/1,024",
         kind: "",
     },
     Primitive {

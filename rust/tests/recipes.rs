@@ -70,7 +70,8 @@ fn every_step() -> Vec<Recipe> {
     ]
 }
 
-/// The example of each step of docs/MESSAGES.md: the hex before two spaces of the indented lines below a heading.
+/// The example of each step of docs/MESSAGES.md: the hex before two spaces of the indented lines below a
+/// heading.
 fn documented() -> Vec<Vec<u8>> {
     let document = include_str!("../../docs/MESSAGES.md");
     let bytes = |line: &str| -> Option<Vec<u8>> {
@@ -269,8 +270,8 @@ fn a_step_is_refused_in_its_own_words() {
     see(
         dilate(new(), 0, 3).turbulence(1, 0.0, 0.0, 1.0, 1.0, 0.0, 0.0, 9, 0, true),
         kind,
-        "refused 5 (Range) at step 1, turbulence: offsets are -4,096 to 4,096, scales 1/16 to 16, frequencies 0 \
-         to 16, octaves at most 8",
+        "refused 5 (Range) at step 1, turbulence: offsets are -4,096 to 4,096, scales 1/16 to 16, \
+         frequencies 0 to 16, octaves at most 8",
     );
 }
 

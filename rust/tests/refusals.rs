@@ -18,6 +18,13 @@ const SIZES: [(u32, u32); 5] = [(0, 2), (2, 0), (4097, 2), (2, 4097), (u32::MAX,
 /// Lengths that no sheet of 2 x 2 has.
 const LENGTHS: [usize; 5] = [0, 1, 15, 17, 64];
 
+/// A refusal goes wherever an error goes.
+#[test]
+fn a_refusal_is_an_error() {
+    let boxed: Box<dyn std::error::Error + Send + Sync> = Refusal::Size.into();
+    assert_eq!(boxed.downcast_ref(), Some(&Refusal::Size));
+}
+
 /// Bytes that are all different up to 256.
 fn sheet(length: usize) -> Vec<u8> {
     (0..length).map(|i| (i * 37 + 11) as u8).collect()

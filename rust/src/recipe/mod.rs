@@ -455,8 +455,8 @@ impl Recipe {
         }
     }
 
-    /// Whether some byte of the result draws on the source. Nothing is written, and what the sheets hold does not
-    /// matter.
+    /// Whether some byte of the result draws on the source. Nothing is written, and what the sheets hold does
+    /// not matter.
     ///
     /// # Errors
     ///

@@ -12,8 +12,8 @@ pub enum Kind {
     Premultiplied = 1,
 }
 
-/// What a run is lent, all sheets of 4 x width x height bytes. `S` and `B` are anything that owns or borrows bytes,
-/// as `Vec<u8>`, `&[u8]` (the source alone) or `&mut [u8]`.
+/// What a run is lent, all sheets of 4 x width x height bytes. `S` and `B` are anything that owns or borrows
+/// bytes, as `Vec<u8>`, `&[u8]` (the source alone) or `&mut [u8]`.
 #[derive(Clone, Debug, PartialEq, Eq)]
 pub struct Sheets<S, B> {
     /// The kind of the source.
@@ -39,6 +39,7 @@ impl<S: AsRef<[u8]>> Sheets<S, Vec<u8>> {
     /// let sheets = Sheets::new(Kind::Straight, 1, 2, [255; 8]);
     /// assert_eq!(sheets.slots[0], [0; 8]);
     /// ```
+    #[must_use]
     pub fn new(kind: Kind, width: u32, height: u32, source: S) -> Self {
         let clear = || vec![0; source.as_ref().len()];
         Sheets {
