@@ -41,6 +41,8 @@ pub mod component_transfer;
 pub mod composite;
 pub mod convolve_matrix;
 pub mod displacement_map;
+#[cfg(doctest)]
+mod kinds;
 mod library;
 pub mod lighting;
 pub mod morphology;
