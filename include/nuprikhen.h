@@ -3,32 +3,32 @@
  * A sheet is 4 * width * height bytes: r, g, b, a of each pixel, row by row.
  * Its colour is straight or premultiplied by alpha, as each function says.
  * Every slice is a pointer and a number of elements. A pointer is never null,
- * even of 0 elements, and is aligned for its elements. What one call may write
- * overlaps nothing else that is lent to it. Nothing is kept after the call,
- * and nothing is allocated.
+ * even of 0 elements, and is aligned for its elements.
+ *
+ * Overlap: a slice whose pointer is not const shares no byte with any other
+ * slice of the same call. Slices of const pointers may overlap, or be one. No
+ * call can test this: where it does not hold, what happens is undefined.
  *
  * A call tests first and writes afterwards: on a refusal no lent byte has
- * changed. The first test that fails gives the number:
+ * changed. The first test that fails gives the number (NUP_DONE and its like,
+ * below).
  *
- *   0  done
- *   1  width or height outside 1..4096
- *   2  a sheet or scratch is not exactly 4 * width * height bytes
- *   3  a matrix is not of 20 numbers, a table is over 256 entries, a linear
- *      function is not of 2 numbers, or a kernel is not of rows * columns
- *      numbers, has a side outside 1..15 or its target outside it
- *   4  a parameter is NaN or infinite
- *   5  a finite parameter is outside its range, or a number names no case
+ * A call depends on what it is lent and on nothing else, and nothing is kept
+ * after it: the library has no state, allocates nothing, takes no lock and
+ * makes no system call. So every function is reentrant: any threads may call
+ * any functions at once, where no slice that one of them may write overlaps a
+ * slice of another's. Floats are to be in C's first state, round to nearest
+ * with subnormal numbers kept: in another the bytes are not promised.
  *
- * A recipe (nup_run, nup_reaches) has these too; there 3, 4, 5, 7 and 8 come
- * with the index of the step that is refused:
+ * Stack: no call takes more than NUP_STACK_LIMIT bytes, whatever the size of
+ * its sheets.
  *
- *   6  0 steps or over 16
- *   7  a slot outside 0..3, output slot 0, an output that is an input, or an
- *      input that is not slot 0 and that no earlier step wrote
- *   8  an input is of the wrong kind
- *  10  the message has a wrong number: the bytes end early, it is not in its
- *      shortest form or too large, an unknown code, or bytes are left over
- *  11  the message holds over 16,384 numbers of matrices, tables and kernels
+ * Time: every call ends. It takes time in proportion to width * height, times
+ * the sum of the radii in nup_morphology, of which each counts up to its side
+ * of the sheet; rows * columns in nup_convolve_matrix; and num_octaves in
+ * nup_turbulence. A recipe takes the sum of its steps. So the longest call is
+ * a recipe of 16 morphologies with radii of NUP_SIDE_LIMIT, on sheets of that
+ * side: each of them takes LONGEST. Where others send the recipes, bound the sides and the radii.
  */
 #ifndef NUPRIKHEN_H
 #define NUPRIKHEN_H
@@ -36,9 +36,60 @@
 #include <stddef.h>
 #include <stdint.h>
 
+/* The version of this header. nup_version gives that of the archive, which is
+   to be the same; CHANGELOG.md says what the three numbers promise. */
+#define NUP_VERSION_MAJOR 0
+#define NUP_VERSION_MINOR 2
+#define NUP_VERSION_PATCH 0
+#define NUP_VERSION                                                          \
+    (NUP_VERSION_MAJOR * 1000000 + NUP_VERSION_MINOR * 1000 +                \
+     NUP_VERSION_PATCH)
+
+/* The longest side of a sheet. */
+#define NUP_SIDE_LIMIT 4096
+
+/* The most stack that a call takes, in bytes: nup_run and nup_reaches, which
+   keep the numbers of a message there. It is measured, not proved. */
+#define NUP_STACK_LIMIT STACKLIMIT
+
+/* Where the compiler can, it warns of an answer that is not looked at. */
+#ifdef __GNUC__
+#define NUP_MUST_USE __attribute__((warn_unused_result))
+#else
+#define NUP_MUST_USE
+#endif
+
 #ifdef __cplusplus
 extern "C" {
 #endif
+
+/* The number of an answer. */
+enum {
+    NUP_DONE = 0,
+    NUP_SIZE = 1,       /* width or height outside 1..NUP_SIDE_LIMIT */
+    NUP_LENGTH = 2,     /* a sheet or scratch is not exactly
+                           4 * width * height bytes */
+    NUP_SHAPE = 3,      /* a matrix is not of 20 numbers, a table is over 256
+                           entries, a linear function is not of 2 numbers, or
+                           a kernel is not of rows * columns numbers, has a
+                           side outside 1..15 or its target outside it */
+    NUP_NOT_FINITE = 4, /* a parameter is NaN or infinite */
+    NUP_RANGE = 5,      /* a finite parameter is outside its range, or a
+                           number names no case */
+
+    /* A recipe (nup_run, nup_reaches) has these too; there 3, 4, 5, 7 and 8
+       come with the index of the step that is refused. */
+    NUP_STEPS = 6,      /* 0 steps or over 16 */
+    NUP_SLOT = 7,       /* a slot outside 0..3, output slot 0, an output that
+                           is an input, or an input that is not slot 0 and
+                           that no earlier step wrote */
+    NUP_KIND = 8,       /* an input is of the wrong kind */
+    NUP_MALFORMED = 10, /* the message has a wrong number: the bytes end early,
+                           it is not in its shortest form or too large, an
+                           unknown code, or bytes are left over */
+    NUP_ROOM = 11       /* the message holds over 16,384 numbers of matrices,
+                           tables and kernels */
+};
 
 /* The number of the answer, and the index of the step that was refused:
    0 in a single call. */
@@ -47,6 +98,9 @@ typedef struct {
     uint8_t step;
 } nup_answer;
 
+/* The version of the archive, as NUP_VERSION. */
+uint32_t nup_version(void);
+
 /* op */
 enum { NUP_DILATE = 0, NUP_ERODE = 1 };
 
@@ -54,6 +108,7 @@ enum { NUP_DILATE = 0, NUP_ERODE = 1 };
    radii, which are rounded half away from zero; clipped at the edges.
    Premultiplied colour, in place. scratch is as long as src, and all zero
    afterwards. Refused: 1, 2, 4, 5 (radii 0 to 65,536). */
+NUP_MUST_USE
 nup_answer nup_morphology(uint32_t width, uint32_t height, uint8_t op,
                           float rx, float ry, uint8_t *src, size_t src_len,
                           uint8_t *scratch, size_t scratch_len);
@@ -61,23 +116,27 @@ nup_answer nup_morphology(uint32_t width, uint32_t height, uint8_t op,
 /* A matrix of four rows and five columns, m_len 20, on straight colour, in
    place; the fifth column is added. Results are cut, not rounded.
    Refused: 1, 2, 3, 4, 5 (numbers -65,536 to 65,536). */
+NUP_MUST_USE
 nup_answer nup_color_matrix(uint32_t width, uint32_t height,
                             const float *m, size_t m_len,
                             uint8_t *src, size_t src_len);
 
 /* Saturation by v, which counts as 0 below 0. Straight colour, in place;
    alpha is kept. Refused: 1, 2, 4, 5 (v -65,536 to 65,536). */
+NUP_MUST_USE
 nup_answer nup_saturate(uint32_t width, uint32_t height, float v,
                         uint8_t *src, size_t src_len);
 
 /* The hue turned by the angle of this cosine and sine. Straight colour, in
    place; alpha is kept. Refused: 1, 2, 4, 5 (the exact sum of the squares is
    further than 1/1,024 from 1). */
+NUP_MUST_USE
 nup_answer nup_hue_rotate(uint32_t width, uint32_t height, float cosine,
                           float sine, uint8_t *src, size_t src_len);
 
 /* Colour 0, and the luminance as alpha. Straight colour, in place.
    Refused: 1, 2. */
+NUP_MUST_USE
 nup_answer nup_luminance_to_alpha(uint32_t width, uint32_t height,
                                   uint8_t *src, size_t src_len);
 
@@ -89,6 +148,7 @@ enum { NUP_IDENTITY = 0, NUP_TABLE = 1, NUP_DISCRETE = 2, NUP_LINEAR = 3 };
    and those of NUP_IDENTITY are not read. NUP_IDENTITY and 0 entries leave the
    channel alone. Straight colour, in place. Results are cut, not rounded.
    Refused: 1, 2, 3, 4, 5 (values -65,536 to 65,536). */
+NUP_MUST_USE
 nup_answer nup_component_transfer(uint32_t width, uint32_t height,
                                   uint8_t kind_r, const float *r, size_t r_len,
                                   uint8_t kind_g, const float *g, size_t g_len,
@@ -99,6 +159,7 @@ nup_answer nup_component_transfer(uint32_t width, uint32_t height,
 /* k1 * src1 * src2 + k2 * src1 + k3 * src2 + k4 of each channel; where the new
    alpha is near zero all four are 0. Premultiplied colour, all three sheets.
    Refused: 1, 2, 4, 5 (k1 to k4 -65,536 to 65,536). */
+NUP_MUST_USE
 nup_answer nup_arithmetic(uint32_t width, uint32_t height, float k1, float k2,
                           float k3, float k4,
                           const uint8_t *src1, size_t src1_len,
@@ -116,6 +177,7 @@ enum { NUP_EDGE_NONE = 0, NUP_EDGE_DUPLICATE = 1, NUP_EDGE_WRAP = 2 };
    becomes premultiplied. Results are rounded by adding a half. scratch is as
    long as src, and all zero afterwards. Refused: 1, 2, 3, 4, 5 (kernel and
    bias -65,536 to 65,536; divisor the same, in size at least 1/65,536). */
+NUP_MUST_USE
 nup_answer nup_convolve_matrix(uint32_t width, uint32_t height,
                                uint32_t columns, uint32_t rows,
                                uint32_t target_x, uint32_t target_y,
@@ -135,6 +197,7 @@ enum { NUP_CHANNEL_R = 0, NUP_CHANNEL_G = 1, NUP_CHANNEL_B = 2,
    four channels are 0. The map has straight colour, dest src's.
    Refused: 1, 2, 4, 5 (sx and sy -16 to 16, scale -4,096 to 4,096, another
    channel). */
+NUP_MUST_USE
 nup_answer nup_displacement_map(uint32_t width, uint32_t height,
                                 uint8_t x_channel, uint8_t y_channel,
                                 float sx, float sy, float scale,
@@ -150,6 +213,7 @@ enum { NUP_TURBULENCE = 0, NUP_FRACTAL_NOISE = 1 };
    sx and sy the canvas scale. Any seed draws. stitch_tiles is 0.
    Refused: 1, 2, 4, 5 (offsets -4,096 to 4,096, scales 1/16 to 16, frequencies
    0 to 16, octaves over 8, another stitch_tiles or kind). */
+NUP_MUST_USE
 nup_answer nup_turbulence(uint32_t width, uint32_t height, double offset_x,
                           double offset_y, double sx, double sy,
                           double base_frequency_x, double base_frequency_y,
@@ -167,6 +231,7 @@ enum { NUP_DISTANT = 0, NUP_POINT = 1 };
    1/1,024 from 1, a place beyond -65,536 to 65,536, surface_scale beyond -256
    to 256, diffuse_constant beyond 0 to 256, another light, whose x, y and z
    are then not read). */
+NUP_MUST_USE
 nup_answer nup_diffuse_lighting(uint32_t width, uint32_t height, uint8_t light,
                                 float x, float y, float z,
                                 float surface_scale, float diffuse_constant,
@@ -177,6 +242,7 @@ nup_answer nup_diffuse_lighting(uint32_t width, uint32_t height, uint8_t light,
 /* As nup_diffuse_lighting, for light that is thrown back as by a mirror; dest
    is premultiplied, and its alpha is the largest of its colours. Refused also:
    5 where specular_exponent is not 1. */
+NUP_MUST_USE
 nup_answer nup_specular_lighting(uint32_t width, uint32_t height,
                                  uint8_t light, float x, float y, float z,
                                  float surface_scale, float specular_constant,
@@ -187,28 +253,34 @@ nup_answer nup_specular_lighting(uint32_t width, uint32_t height,
 
 /* Each of xs as a byte: toward zero, 0 for a NaN and below 0, 255 above it.
    Refused: 2 where the two lengths differ. */
+NUP_MUST_USE
 nup_answer nup_to_bytes(const float *xs, size_t xs_len,
                         uint8_t *out, size_t out_len);
 
 /* Each of xs rounded half away from zero: 0 for a NaN, and the nearest end of
    the range beyond it. Refused: 2 where the two lengths differ. */
+NUP_MUST_USE
 nup_answer nup_round_to_i32s(const float *xs, size_t xs_len,
                              int32_t *out, size_t out_len);
 
 /* The square root of each of xs, rounded once; a NaN where it is a NaN or below
    zero. Refused: 2 where the two lengths differ. */
+NUP_MUST_USE
 nup_answer nup_sqrt32(const float *xs, size_t xs_len,
                       float *out, size_t out_len);
+NUP_MUST_USE
 nup_answer nup_sqrt64(const double *xs, size_t xs_len,
                       double *out, size_t out_len);
 
 /* Each of xs rounded to the nearest float, a tie to the even one: an infinity
    beyond the largest, and a NaN for a NaN. Refused: 2 where the two lengths
    differ. */
+NUP_MUST_USE
 nup_answer nup_to_f32s(const double *xs, size_t xs_len,
                        float *out, size_t out_len);
 
 /* dst takes src's bytes. Refused: 2 where the two lengths differ. */
+NUP_MUST_USE
 nup_answer nup_copy(const uint8_t *src, size_t src_len,
                     uint8_t *dst, size_t dst_len);
 
@@ -233,6 +305,7 @@ enum { NUP_STRAIGHT = 0, NUP_PREMULTIPLIED = 1 };
    and scratch is all zero. What lies in slots 1 to 3 before is never read.
    Refused: 10, then 6 over 16 steps, then 11; 5 for another kind; then 1, 2,
    6 of 0 steps, and step by step 7, 8, 3, 4, 5. */
+NUP_MUST_USE
 nup_run_answer nup_run(const uint8_t *message, size_t message_len,
                        uint8_t kind, uint32_t width, uint32_t height,
                        const uint8_t *source, size_t source_len,
@@ -251,6 +324,7 @@ typedef struct {
 
 /* Whether some byte of the result draws on the source; 0 where it is refused,
    as nup_run is. Nothing is written. */
+NUP_MUST_USE
 nup_reach_answer nup_reaches(const uint8_t *message, size_t message_len,
                              uint8_t kind, uint32_t width, uint32_t height,
                              const uint8_t *source, size_t source_len,

@@ -1,4 +1,4 @@
-//! Links the static library: the archive named by NUPRIKHEN_ARCHIVE, else the one that bench/native makes.
+//! Links the static library: the archive named by NUPRIKHEN_ARCHIVE, else the one that ./build makes.
 
 use std::path::{Path, PathBuf};
 use std::{env, fs};
@@ -19,12 +19,12 @@ fn main() {
         None => package
             .parent()
             .unwrap()
-            .join("target/native/libnuprikhen.a"),
+            .join("target/library/libnuprikhen.a"),
     };
     println!("cargo::rerun-if-changed={}", archive.display());
     if let Err(what) = link(&archive) {
         println!(
-            "cargo::error={}: {what}. Run bench/native in the repository, or name an archive by an \
+            "cargo::error={}: {what}. Run ./build in the repository, or name an archive by an \
              absolute path in NUPRIKHEN_ARCHIVE.",
             archive.display()
         );

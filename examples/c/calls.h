@@ -143,7 +143,7 @@ static nup_answer run(uint32_t w, uint32_t h, int round, const slice *s) {
 /* Each of the messages reaches its source. */
 static nup_answer reaches(uint32_t w, uint32_t h, int round, const slice *s) {
     nup_reach_answer answer = reach_answer(w, h, round, s);
-    if (answer.reaches != (answer.number == 0)) answer.step = 255;
+    if (answer.reaches != (answer.number == NUP_DONE)) answer.step = 255;
     return (nup_answer){answer.number, answer.step};
 }
 
@@ -182,7 +182,14 @@ static nup_answer clear(uint32_t w, uint32_t h, int round, const slice *s) {
     return nup_clear(LEND(s[0]));
 }
 
+/* Done where the archive is of the header's version. */
+static nup_answer version(uint32_t w, uint32_t h, int round, const slice *s) {
+    (void)w, (void)h, (void)round, (void)s;
+    return (nup_answer){nup_version() == NUP_VERSION ? NUP_DONE : 255, 0};
+}
+
 static const function functions[] = {
+    {"nup_version", "", 0, version},
     {"nup_morphology", "ss", 1, morphology},
     {"nup_color_matrix", "ms", 1, color_matrix},
     {"nup_saturate", "s", 1, saturate},

@@ -18,7 +18,7 @@ int main(void) {
     print_alphas("before", sheet, 3);
     answer = nup_morphology(3, 1, NUP_DILATE, 1.0f, 0.0f, sheet, sizeof sheet,
                             scratch, sizeof scratch);
-    if (answer.number != 0) {
+    if (answer.number != NUP_DONE) {
         fprintf(stderr, "refused %d\n", answer.number);
         return 1;
     }

@@ -80,7 +80,7 @@ static void accepted(void) {
             for (sides = 0; sides < 1u << count; sides++)
                 for (int round = 0; tried(count) && round < ROUNDS; round++) {
                     for (int i = 0; i < count; i++) s[i] = against(i, now->lent[i], sides >> i & 1, round);
-                    expect(0, round, s);
+                    expect(NUP_DONE, round, s);
                 }
 }
 
@@ -95,13 +95,15 @@ static void refused(uint8_t number, const size_t *lengths) {
 }
 
 static void refused_sizes(void) {
-    static const uint32_t wrong[][2] = {{0, 1}, {1, 0}, {4097, 1}, {1, 4097}, {65536, 65536}, {UINT32_MAX, UINT32_MAX}};
+    static const uint32_t wrong[][2] = {{0, 1},         {1, 0},
+                                        {NUP_SIDE_LIMIT + 1, 1}, {1, NUP_SIDE_LIMIT + 1},
+                                        {65536, 65536}, {UINT32_MAX, UINT32_MAX}};
     size_t lengths[SLICES];
     for (size_t n = 0; n < sizeof wrong / sizeof *wrong; n++) {
         width = wrong[n][0];
         height = wrong[n][1];
         for (int i = 0; i < SLICES; i++) lengths[i] = (size_t)4 * width * height;
-        refused(1, lengths);
+        refused(NUP_SIZE, lengths);
     }
 }
 
@@ -113,15 +115,15 @@ static void refused_lengths(void) {
         if (strchr("sfd", now->lent[i])) {
             right = lengths[i];
             lengths[i] = right + 1;
-            refused(2, lengths);
+            refused(NUP_LENGTH, lengths);
             lengths[i] = right - 1;
-            refused(2, lengths);
+            refused(NUP_LENGTH, lengths);
             lengths[i] = right;
         }
     if (!strpbrk(now->lent, "mtp")) return;
     for (size_t i = 0; i < count; i++)
         if (strchr("mtp", now->lent[i])) lengths[i] = 257;
-    refused(3, lengths);
+    refused(NUP_SHAPE, lengths);
 }
 
 /* Messages that lack 1 byte of their end or more. */
@@ -129,7 +131,7 @@ static void refused_messages(void) {
     size_t lengths[SLICES];
     width = height = 1;
     for (int i = 0; i < SLICES; i++) lengths[i] = 4;
-    for (cut = 1; cut <= sizeof toned; cut++) refused(10, lengths);
+    for (cut = 1; cut <= sizeof toned; cut++) refused(NUP_MALFORMED, lengths);
     cut = 0;
 }
 
@@ -143,7 +145,7 @@ int main(void) {
         if (now->lent[0] == 'b') refused_messages();
         for (width = 1; width <= SIDE; width++)
             for (height = 1; height <= SIDE; height++)
-                if (now->lent[1] || now->sized) refused_lengths();
+                if (now->lent[0] && (now->lent[1] || now->sized)) refused_lengths();
     }
     printf("%ld calls with slices against pages without access, %d wrong answers\n", calls, bad);
     return bad != 0;

@@ -22,7 +22,7 @@ static nup_run_answer run(size_t length) {
 int main(void) {
     nup_run_answer answer = run(sizeof message);
     nup_reach_answer reach;
-    if (answer.number != 0) {
+    if (answer.number != NUP_DONE) {
         fprintf(stderr, "refused %d at step %d\n", answer.number, answer.step);
         return 1;
     }

@@ -1,12 +1,13 @@
 /* Measures how much stack each function of the header takes, by what it leaves changed in a stack of its own: on sheets with
-   sides up to 5, and on sheets with sides up to the limit, which must take no more. See ./run. */
+   sides up to 5, and on sheets with sides up to the limit, which must take no more; and none more than NUP_STACK_LIMIT.
+   See ./run. */
 #define _DEFAULT_SOURCE
 #include <stdio.h>
 #include <stdlib.h>
 #include <ucontext.h>
 #include "calls.h"
 
-enum { STACK = 1 << 20, PAINT = 0xA5, SMALL = 5, MOST = 4096 };
+enum { STACK = 1 << 20, PAINT = 0xA5, SMALL = 5, MOST = NUP_SIDE_LIMIT };
 
 static uint8_t stack[STACK];
 static ucontext_t here, there;
@@ -45,7 +46,7 @@ static size_t taken(uint32_t w, uint32_t h) {
             fill(lent[i], now->lent[i], turn);
         }
         bytes = reached();
-        if (answer.number != 0) {
+        if (answer.number != NUP_DONE) {
             fprintf(stderr, "%s: %u x %u, round %d: answer %d\n", now->name, w, h, turn, answer.number);
             exit(1);
         }
@@ -57,6 +58,7 @@ static size_t taken(uint32_t w, uint32_t h) {
 int main(void) {
     static const uint32_t large[][2] = {{600, 3}, {3, 600}, {1025, 5}, {MOST, 1}, {1, MOST}, {MOST, 4}, {4, MOST}};
     int grown = 0;
+    size_t all = 0;
     for (int i = 0; i < SLICES; i++)
         if (!(lent[i].start = malloc((size_t)8 * 4 * 4 * MOST))) return 2;
     for (now = functions; now < functions + sizeof functions / sizeof *functions; now++) {
@@ -69,7 +71,9 @@ int main(void) {
             if (most < (bytes = taken(large[n][0], large[n][1]))) most = bytes;
         printf("%s: %zu bytes of stack, %zu on large sheets\n", now->name, small, most);
         grown += small < most;
+        if (all < most) all = most;
     }
     printf("%d functions take more stack where sides are longer\n", grown);
-    return grown != 0;
+    printf("%zu bytes of stack are the most, and the header allows %d\n", all, NUP_STACK_LIMIT);
+    return grown != 0 || all > NUP_STACK_LIMIT;
 }

@@ -35,8 +35,15 @@ pub const TYPES: [(&str, &str); 16] = [
     ("nup_reach_answer", "ReachAnswer"),
 ];
 
-/// The functions in the header's order.
+/// The functions that answer, in the header's order: all but nup_version.
 pub fn functions(header: &str) -> Vec<Function> {
+    let mut answering = all_functions(header);
+    answering.retain(|function| function.result.ends_with("answer"));
+    answering
+}
+
+/// All functions in the header's order.
+pub fn all_functions(header: &str) -> Vec<Function> {
     let statements = without_comments(header);
     let calls = statements
         .split(';')
@@ -48,7 +55,10 @@ fn function(head: &str, params: &str) -> Function {
     let head = param(head.lines().last().unwrap());
     Function {
         name: head.name,
-        params: params.split(',').map(param).collect(),
+        params: match params {
+            "void" => Vec::new(),
+            _ => params.split(',').map(param).collect(),
+        },
         result: head.kind,
     }
 }

@@ -8,8 +8,9 @@ use std::path::{Path, PathBuf};
 
 use oracle::header::{self, TYPES};
 
-/// What the package leaves out: the leaves are there for comparing and measuring.
-const NOT_IN_THE_PACKAGE: [&str; 7] = [
+/// What the package leaves out: the leaves are there for comparing and measuring, and its version is its own.
+const NOT_IN_THE_PACKAGE: [&str; 8] = [
+    "nup_version",
     "nup_to_bytes",
     "nup_round_to_i32s",
     "nup_sqrt32",
@@ -44,7 +45,7 @@ fn rust(kind: &str) -> &str {
 }
 
 fn in_header() -> Declared {
-    let functions = header::functions(&text("include/nuprikhen.h"));
+    let functions = header::all_functions(&text("include/nuprikhen.h"));
     let declared = functions.iter().map(|f| {
         let params = f
             .params

@@ -10,6 +10,7 @@ mod nup_lighting;
 mod nup_morphology;
 mod nup_recipes;
 mod nup_turbulence;
+mod nup_version;
 
 use sheet::Answer;
 ghost use Rattle.nuprikhen.specs.Called.{Told};
