@@ -26,9 +26,9 @@
  * Time: every call ends. It takes time in proportion to width * height, times
  * the sum of the radii in nup_morphology, of which each counts up to its side
  * of the sheet; rows * columns in nup_convolve_matrix; and num_octaves in
- * nup_turbulence. A recipe takes the sum of its steps. So the longest call is
- * a recipe of 16 morphologies with radii of NUP_SIDE_LIMIT, on sheets of that
- * side: each of them takes LONGEST. Where others send the recipes, bound the sides and the radii.
+ * nup_turbulence. A recipe takes the sum of its steps. The longest call is a
+ * recipe of 16 morphologies with radii of NUP_SIDE_LIMIT, on sheets of that
+ * side: it takes minutes. Where others send the recipes, bound the sides.
  */
 #ifndef NUPRIKHEN_H
 #define NUPRIKHEN_H
@@ -50,7 +50,7 @@
 
 /* The most stack that a call takes, in bytes: nup_run and nup_reaches, which
    keep the numbers of a message there. It is measured, not proved. */
-#define NUP_STACK_LIMIT STACKLIMIT
+#define NUP_STACK_LIMIT 262144
 
 /* Where the compiler can, it warns of an answer that is not looked at. */
 #ifdef __GNUC__
@@ -263,8 +263,8 @@ NUP_MUST_USE
 nup_answer nup_round_to_i32s(const float *xs, size_t xs_len,
                              int32_t *out, size_t out_len);
 
-/* The square root of each of xs, rounded once; a NaN where it is a NaN or below
-   zero. Refused: 2 where the two lengths differ. */
+/* The square root of each of xs, rounded once; a NaN where it is a NaN or
+   below zero. Refused: 2 where the two lengths differ. */
 NUP_MUST_USE
 nup_answer nup_sqrt32(const float *xs, size_t xs_len,
                       float *out, size_t out_len);
