@@ -31,7 +31,7 @@
  * nup_turbulence. A recipe takes the sum of its steps, and the time to read
  * the message, all of it even where it is refused. Seen on sheets of the
  * longest sides, by a Neoverse-V1: 2 seconds or less for a single call, but
- * 20 to 25 for a morphology of the largest radii, and so some 6 minutes for a
+ * 20 to 25 for a morphology of the largest radii, and 6 to 8 minutes for a
  * recipe of 16 of them; 1 second for 64 MiB of message. Where others send
  * recipes, bound the sides and the length.
  */
