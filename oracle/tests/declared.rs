@@ -8,7 +8,8 @@ use std::path::{Path, PathBuf};
 
 use oracle::header::{self, TYPES};
 
-/// What the package leaves out: the leaves are there for comparing and measuring, and its version is its own.
+/// What the package leaves out: its version is its own, and the leaves are there for comparing and
+/// measuring.
 const NOT_IN_THE_PACKAGE: [&str; 8] = [
     "nup_version",
     "nup_to_bytes",
