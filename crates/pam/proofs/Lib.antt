@@ -1,4 +1,0 @@
-pub mod Words
-pub mod Lines
-pub mod Stores
-pub mod ReadBack
