@@ -1,7 +1,7 @@
 //! Files: pictures read by their content, and results that stand whole or not at all.
 
 use std::fs::{self, File};
-use std::io::{ErrorKind, Read, Write};
+use std::io::{self, ErrorKind, Read, Write};
 use std::path::{Path, PathBuf};
 use std::process;
 
@@ -39,7 +39,9 @@ pub fn ends_in(name: &Path, ending: &str) -> bool {
 impl Form {
     /// By the ending of a result's name.
     pub fn of(name: &Path) -> Result<Form, String> {
+        let folder = name.as_os_str().as_encoded_bytes().ends_with(b"/");
         match () {
+            _ if folder => Err("a directory's name".to_string()),
             _ if ends_in(name, "png") => Ok(Form::Png),
             _ if ends_in(name, "pam") => Ok(Form::Pam),
             _ => Err("the result's name must end in .png or .pam".to_string()),
@@ -73,7 +75,7 @@ pub fn read(path: &Path, limit: u64) -> Result<Vec<u8>, String> {
 }
 
 /// The words for a failure.
-fn words(error: std::io::Error) -> String {
+fn words(error: io::Error) -> String {
     match error.kind() {
         ErrorKind::NotFound => "no such file".to_string(),
         ErrorKind::PermissionDenied => "no permission".to_string(),
@@ -179,4 +181,100 @@ pub fn write_whole(path: &Path, bytes: &[u8]) -> Result<(), String> {
         file.set_permissions(there.permissions()).map_err(words)?;
     }
     fs::rename(&part.0, path).map_err(words)
+}
+
+#[cfg(test)]
+mod tests {
+    use super::*;
+
+    /// A folder of its own for a test, removed afterwards.
+    struct Folder(PathBuf);
+
+    impl Folder {
+        fn new(name: &str) -> Folder {
+            let folder = std::env::temp_dir().join(format!("card-{name}-{}", process::id()));
+            fs::create_dir_all(&folder).expect("a folder");
+            Folder(folder)
+        }
+
+        /// The names in it.
+        fn names(&self) -> Vec<String> {
+            let entries = fs::read_dir(&self.0).expect("a folder");
+            let name = |entry: io::Result<fs::DirEntry>| entry.expect("an entry").file_name();
+            let mut names: Vec<_> = entries
+                .map(|e| name(e).into_string().expect("text"))
+                .collect();
+            names.sort();
+            names
+        }
+    }
+
+    impl Drop for Folder {
+        fn drop(&mut self) {
+            let _ = fs::remove_dir_all(&self.0);
+        }
+    }
+
+    #[test]
+    fn endings() {
+        for name in ["a.png", "a.PNG", "-a.Png", "./a.b.png"] {
+            assert_eq!(Form::of(Path::new(name)), Ok(Form::Png), "{name}");
+        }
+        assert_eq!(Form::of(Path::new("a.PAM")), Ok(Form::Pam));
+        for name in ["a", "a.jpg", ".png", "png", "a.png/", "a.pngx", ""] {
+            assert!(Form::of(Path::new(name)).is_err(), "{name}");
+        }
+    }
+
+    #[test]
+    fn a_result_stands_whole_and_alone() {
+        let folder = Folder::new("whole");
+        let path = folder.0.join("a.png");
+        for bytes in [&b"first"[..], b"second one"] {
+            write_whole(&path, bytes).expect("written");
+            assert_eq!(fs::read(&path).expect("a file"), bytes);
+        }
+        assert_eq!(folder.names(), ["a.png"]);
+    }
+
+    #[test]
+    fn what_cannot_take_the_place_goes() {
+        let folder = Folder::new("goes");
+        let path = folder.0.join("a.png");
+        fs::create_dir(&path).expect("a folder");
+        write_whole(&path, b"bytes").expect_err("a directory's place");
+        assert_eq!(folder.names(), ["a.png"]);
+        assert_eq!(test_place(&path), Err("not a plain file".to_string()));
+        let told = test_place(&folder.0.join("none/a.png"));
+        assert_eq!(told, Err("no such directory".to_string()));
+    }
+
+    #[test]
+    fn too_long_a_file_is_told() {
+        let folder = Folder::new("long");
+        let path = folder.0.join("a");
+        fs::write(&path, [7; 10]).expect("a file");
+        assert_eq!(read(&path, 10), Ok(vec![7; 10]));
+        assert_eq!(read(&path, 9), Err("over 9 bytes long".to_string()));
+        assert_eq!(read(&folder.0, 9), Err("a directory".to_string()));
+    }
+
+    #[test]
+    fn other_kinds_are_named() {
+        let path = Path::new("my/photo.jpg");
+        let told = other(b"\xff\xd8\xff\xe0", path);
+        let said = "a JPEG; card reads PNG and PAM (convert it: magick my/photo.jpg my/photo.png)";
+        assert_eq!(told, said);
+        assert!(other(b"P6\n1 1\n255\n", path).starts_with("a picture of netpbm's older kinds;"));
+        assert_eq!(other(b"", path), "an empty file; card reads PNG and PAM");
+        assert_eq!(
+            other(b"words", path),
+            "of no known kind; card reads PNG and PAM"
+        );
+    }
+
+    #[test]
+    fn names_are_shown_in_one_line() {
+        assert_eq!(shown(Path::new("a\nb.png")), "a\\nb.png");
+    }
 }

@@ -138,3 +138,107 @@ impl Numbers<'_> {
         }
     }
 }
+
+#[cfg(test)]
+mod tests {
+    use super::*;
+    use Kind::{Premultiplied, Straight};
+    use nuprikhen::recipe::Sheets;
+
+    /// The recipe of these steps, each in hexadecimal digits with blanks.
+    fn recipe(steps: &[&str]) -> Recipe {
+        let digits = steps.join(" ");
+        let bytes = digits.split_whitespace();
+        let bytes = bytes.map(|byte| u8::from_str_radix(byte, 16).expect("two digits"));
+        let message: Vec<u8> = [steps.len() as u8].into_iter().chain(bytes).collect();
+        Recipe::from_bytes(&message).expect("a message")
+    }
+
+    // From slot 0 to slot 1, or as the slots say.
+    const MORPHOLOGY: &str = "01 00 01 00 80 80 80 fc 03 00";
+    const SATURATE: &str = "02 00 01 01 80 80 80 f8 03";
+    const TRANSFER: &str = "03 00 01 01 02 00 00 02 01 00 03 00 00 00";
+    const ARITHMETIC: &str = "04 00 00 01 00 80 80 80 fc 03 00 00";
+    const CONVOLVE: &str = "05 00 01 01 01 00 00 01 80 80 80 fc 03 80 80 80 fc 03 00 00 00";
+    const PRESERVING: &str = "05 00 01 01 01 00 00 01 80 80 80 fc 03 80 80 80 fc 03 00 00 01";
+    const DISPLACE: &str = "06 00 01 02 00 01 00 00 00";
+    const NOISE: &str =
+        "07 01 00 00 00 00 00 80 80 c0 ff 03 00 80 80 c0 ff 03 00 00 00 00 01 00 01";
+    const DIFFUSE: &str = "08 00 01 00 00 00 00 00 00 00 00 80 80 80 fc 03";
+    const SPECULAR: &str = "09 00 01 00 00 80 80 80 fc 03 00 00 00 00 00 00 80 80 80 fc 03";
+
+    #[test]
+    fn each_step_as_the_law_has_it() {
+        for (step, kinds) in [
+            (MORPHOLOGY, (Premultiplied, Premultiplied)),
+            (SATURATE, (Straight, Straight)),
+            (TRANSFER, (Straight, Straight)),
+            (ARITHMETIC, (Premultiplied, Premultiplied)),
+            (CONVOLVE, (Premultiplied, Premultiplied)),
+            (PRESERVING, (Straight, Premultiplied)),
+            (NOISE, (Straight, Straight)),
+            (DIFFUSE, (Straight, Straight)),
+            (SPECULAR, (Straight, Premultiplied)),
+        ] {
+            assert_eq!(of(&recipe(&[step])), kinds, "{step}");
+        }
+    }
+
+    /// Every step reads or passes over all of its numbers: a second one is understood behind it.
+    #[test]
+    fn steps_in_a_row() {
+        let first = [MORPHOLOGY, SATURATE, TRANSFER, ARITHMETIC, CONVOLVE];
+        for step in first
+            .into_iter()
+            .chain([PRESERVING, NOISE, DIFFUSE, SPECULAR])
+        {
+            let last = "09 01 02 00 00 80 80 80 fc 03 00 00 00 00 00 00 80 80 80 fc 03";
+            assert_eq!(of(&recipe(&[step, last])).1, Premultiplied, "{step}");
+            let last = "08 01 02 00 00 00 00 00 00 00 00 80 80 80 fc 03";
+            assert_eq!(of(&recipe(&[step, last])).1, Straight, "{step}");
+        }
+    }
+
+    /// A displacement gives its picture's kind, which a later step may decide.
+    #[test]
+    fn displacement() {
+        assert_eq!(of(&recipe(&[NOISE, DISPLACE])), (Straight, Straight));
+        let dilate = "01 02 03 00 80 80 80 fc 03 00";
+        let kinds = of(&recipe(&[NOISE, DISPLACE, dilate]));
+        assert_eq!(kinds, (Premultiplied, Premultiplied));
+    }
+
+    /// The library takes the kind that is told, and no other where another is told not to fit.
+    #[test]
+    fn the_library_agrees() {
+        let dilate = "01 02 03 00 80 80 80 fc 03 00";
+        let steps = [
+            MORPHOLOGY, SATURATE, TRANSFER, ARITHMETIC, CONVOLVE, PRESERVING,
+        ];
+        let recipes = steps.map(|step| recipe(&[step]));
+        for recipe in recipes
+            .into_iter()
+            .chain([recipe(&[NOISE, DISPLACE, dilate])])
+        {
+            let (source, _) = of(&recipe);
+            let taken = |kind| recipe.reaches(&Sheets::new(kind, 1, 1, [0; 4])).is_ok();
+            assert!(taken(source));
+            assert!(!taken(if source == Straight {
+                Premultiplied
+            } else {
+                Straight
+            }));
+        }
+    }
+
+    #[test]
+    fn what_the_run_refuses_gets_an_answer_too() {
+        for steps in [
+            &[][..],
+            &["01 09 2c 00 80 80 80 fc 03 00"],
+            &[MORPHOLOGY, SATURATE],
+        ] {
+            assert_eq!(of(&recipe(steps)).0, Straight);
+        }
+    }
+}

@@ -109,3 +109,50 @@ fn run(ready: &Ready, picture: Picture) -> Result<Picture, String> {
         sheet,
     })
 }
+
+#[cfg(test)]
+mod tests {
+    use super::*;
+
+    fn asked_by(words: &[&str]) -> Asked {
+        asked(words.iter().map(OsString::from).collect())
+    }
+
+    #[test]
+    fn options_stand_before_two_dashes() {
+        for words in [
+            &["--help"][..],
+            &["-h"],
+            &["fade", "--help"],
+            &["--help", "--"],
+        ] {
+            assert_eq!(asked_by(words), Asked::Text(HELP), "{words:?}");
+        }
+        assert_eq!(asked_by(&["--version"]), Asked::Text(VERSION));
+        let names = |words: &[&str]| Asked::Filter(words.iter().map(OsString::from).collect());
+        assert_eq!(
+            asked_by(&["fade", "-a", "-b"]),
+            names(&["fade", "-a", "-b"])
+        );
+        assert_eq!(
+            asked_by(&["fade", "--", "--help", "--"]),
+            names(&["fade", "--help", "--"])
+        );
+        assert_eq!(asked_by(&["--", "-h"]), names(&["-h"]));
+    }
+
+    #[test]
+    fn three_names_are_wanted() {
+        for count in [0, 1, 2, 4] {
+            let told = filter(&vec!["fade".into(); count]).expect_err("a wrong count");
+            assert!(told.starts_with("wants RECIPE IN OUT"), "{told}");
+        }
+    }
+
+    #[test]
+    fn the_result_is_looked_at_first() {
+        let words = ["glow", "no/such.png", "out.jpg"].map(OsString::from);
+        let told = filter(&words).expect_err("all is wrong");
+        assert_eq!(told, "out.jpg: the result's name must end in .png or .pam");
+    }
+}

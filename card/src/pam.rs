@@ -1,4 +1,4 @@
-//! PAM as netpbm reads it: lines of a word and a value with any blanks about them, in any order, up to ENDHDR.
+//! PAM as netpbm reads it: lines of a word and a value, any blanks about them, in any order, up to ENDHDR.
 
 use crate::picture::{Picture, test_sides, to_byte};
 

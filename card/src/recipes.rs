@@ -174,3 +174,90 @@ pub fn named(name: &Path) -> Result<Ready, String> {
         }
     }
 }
+
+#[cfg(test)]
+mod tests {
+    use super::*;
+    use crate::picture::Picture;
+
+    fn ready(name: &str) -> Ready {
+        named(Path::new(name)).expect(name)
+    }
+
+    /// Shades without a sharp edge and without a clear pixel, as a photograph has them.
+    fn photograph() -> Picture {
+        let pixel = |i: u32| {
+            let (x, y) = ((i % 48) as f64, (i / 48) as f64);
+            let wave = |a: f64, b: f64| (128.0 + 90.0 * (a * x + b * y).sin()) as u8;
+            [wave(0.2, 0.1), wave(0.1, 0.3), wave(-0.2, 0.2), 255]
+        };
+        Picture {
+            width: 48,
+            height: 32,
+            sheet: (0..48 * 32).flat_map(pixel).collect(),
+        }
+    }
+
+    #[test]
+    fn every_recipe_is_taken_and_stands_in_the_help() {
+        let help = include_str!("../help.txt");
+        let lines: Vec<&str> = help
+            .lines()
+            .filter_map(|line| line.strip_prefix("  "))
+            .collect();
+        let names: Vec<&str> = lines
+            .iter()
+            .filter_map(|line| line.split(' ').next())
+            .collect();
+        let known = BUILT_IN.map(|(name, _)| name);
+        assert_eq!(names, [&known[..], &["FILE.recipe"]].concat());
+        for name in known {
+            crate::run(&ready(name), photograph()).expect(name);
+        }
+    }
+
+    /// How many of a thousand pixels differ by more than eight in a channel.
+    fn changed(name: &str, picture: &Picture) -> usize {
+        let result = crate::run(&ready(name), picture.clone()).expect(name);
+        let pairs = picture
+            .sheet
+            .chunks_exact(4)
+            .zip(result.sheet.chunks_exact(4));
+        let far = |(a, b): &(&[u8], &[u8])| a.iter().zip(*b).any(|(a, b)| a.abs_diff(*b) > 8);
+        1000 * pairs.filter(far).count() / (picture.sheet.len() / 4)
+    }
+
+    #[test]
+    fn the_default_is_seen_on_a_photograph() {
+        assert!(changed("relief", &photograph()) > 500);
+        let result = crate::run(&ready("relief"), photograph()).expect("done");
+        assert!(result.sheet.chunks_exact(4).all(|pixel| pixel[3] == 255));
+        assert!(result.sheet.chunks_exact(4).any(|pixel| pixel[0] > 60));
+    }
+
+    #[test]
+    fn an_outline_is_straight_colour() {
+        // A pixel of half alpha on a clear ground, one row.
+        let mut sheet = vec![0; 4 * 7];
+        sheet[12..16].copy_from_slice(&[200, 100, 0, 128]);
+        let picture = Picture {
+            width: 7,
+            height: 1,
+            sheet,
+        };
+        let result = crate::run(&ready("outline"), picture).expect("done");
+        let line = [199, 100, 0, 128];
+        let wanted = [[0; 4], line, line, [0; 4], line, line, [0; 4]].concat();
+        assert_eq!(result.sheet, wanted);
+    }
+
+    #[test]
+    fn wrong_names() {
+        let told = named(Path::new("glow")).expect_err("no recipe");
+        assert!(told.starts_with("no such recipe; there are: relief, outline, "));
+        assert_eq!(
+            named(Path::new("no/such.recipe")).expect_err("no file"),
+            "no such file"
+        );
+    }
+}

@@ -180,7 +180,7 @@ fn put_codes(bits: &mut Bits, lengths: &[u8]) {
         .for_each(|&length| bits.put_code(own[usize::from(length)]));
 }
 
-/// The lengths of Huffman's code for symbols that stand so often, of at most `limit` bits; of two symbols or more.
+/// The lengths of Huffman's code for symbols that stand so often, two of them or more; at most `limit` bits.
 fn code_lengths(counts: &[u32], limit: u8) -> Vec<u8> {
     let mut counts = counts.to_vec();
     loop {

@@ -11,8 +11,8 @@ pub const LENGTHS: [(u16, u8); 29] = steps([3, 258], 8, 4);
 /// The same for distances.
 pub const DISTANCES: [(u16, u8); 30] = steps([1, 0], 4, 2);
 
-/// The bases and bits of deflate's two tables: after the first `plain` symbols each group of `group` symbols has
-/// one bit more. The table of lengths ends in the one that stands alone, 258 without bits.
+/// The bases and bits of deflate's two tables: after the first `plain` symbols each group of `group` symbols
+/// has one bit more. The table of lengths ends in the one that stands alone, 258 without bits.
 const fn steps<const N: usize>(ends: [u16; 2], plain: usize, group: usize) -> [(u16, u8); N] {
     let mut table = [(0, 0); N];
     let (mut i, mut base) = (0, ends[0]);
@@ -391,7 +391,7 @@ mod tests {
             // The first thing is a repetition.
             ("789c038200", 9, "repeat what was not there"),
             // Lengths of codes 1, 1 and 1.
-            ("789c05e0490000", 1, "a code that cannot be"),
+            ("789c05009200", 1, "a code that cannot be"),
             ("78014b04000000000000", 1, "checksum is wrong"),
         ] {
             let told = inflate(&hex(zlib), length).expect_err(zlib);

@@ -300,3 +300,221 @@ fn unfilter(filter: u8, pixel: usize, line: &mut [u8], above: &[u8]) -> Result<(
     }
     Ok(())
 }
+
+#[cfg(test)]
+mod tests {
+    use super::super::deflate::deflate;
+    use super::super::write::push_chunk;
+    use super::*;
+
+    /// A chunk's kind and body.
+    type Part<'a> = (&'a [u8; 4], &'a [u8]);
+
+    fn header(width: u8, height: u8, depth: u8, colour: u8, interlace: u8) -> [u8; 13] {
+        [
+            0, 0, 0, width, 0, 0, 0, height, depth, colour, 0, 0, interlace,
+        ]
+    }
+
+    fn file(parts: &[Part]) -> Vec<u8> {
+        let mut file = SIGNATURE.to_vec();
+        for (kind, body) in parts {
+            push_chunk(&mut file, kind, body);
+        }
+        file
+    }
+
+    /// The pixels of a PNG with these chunks before the rows.
+    fn pixels(header: [u8; 13], parts: &[Part], rows: &[u8]) -> Result<Vec<u8>, String> {
+        let rows = deflate(rows);
+        let head: [Part; 1] = [(b"IHDR", &header)];
+        let tail: [Part; 2] = [(b"IDAT", &rows), (b"IEND", &[])];
+        let file = file(&[&head, parts, &tail].concat());
+        read(&file).map(|picture| picture.sheet)
+    }
+
+    #[test]
+    fn grey_of_every_depth() {
+        for (depth, rows, greys) in [
+            (1, &[0, 0b0110_0000][..], [0, 255, 255]),
+            (2, &[0, 0b00_01_10_00], [0, 85, 170]),
+            (4, &[0, 0x0f, 0x20], [0, 255, 34]),
+            (8, &[0, 7, 200, 9], [7, 200, 9]),
+            (16, &[0, 0, 128, 0, 129, 255, 255], [0, 1, 255]),
+        ] {
+            let sheet: Vec<u8> = greys.iter().flat_map(|&g| [g, g, g, 255]).collect();
+            assert_eq!(
+                pixels(header(3, 1, depth, 0, 0), &[], rows),
+                Ok(sheet),
+                "{depth}"
+            );
+        }
+    }
+
+    #[test]
+    fn colour_and_alpha() {
+        let row = [0, 1, 2, 3, 4, 5, 6, 7, 8];
+        assert_eq!(
+            pixels(header(2, 1, 8, 6, 0), &[], &row),
+            Ok(row[1..].to_vec())
+        );
+        let grey = pixels(header(2, 1, 8, 4, 0), &[], &row[..5]);
+        assert_eq!(grey, Ok(vec![1, 1, 1, 2, 3, 3, 3, 4]));
+        let wide = [0, 255, 255, 0, 0, 0, 128, 128, 0];
+        assert_eq!(
+            pixels(header(1, 1, 16, 6, 0), &[], &wide),
+            Ok(vec![255, 0, 0, 128])
+        );
+    }
+
+    #[test]
+    fn the_clear_colour() {
+        let clear: [Part; 1] = [(b"tRNS", &[0, 1, 0, 2, 0, 3])];
+        let row = [0, 1, 2, 3, 1, 2, 4];
+        let sheet = vec![1, 2, 3, 0, 1, 2, 4, 255];
+        assert_eq!(pixels(header(2, 1, 8, 2, 0), &clear, &row), Ok(sheet));
+        let clear: [Part; 1] = [(b"tRNS", &[0, 2])];
+        let sheet = vec![85, 85, 85, 255, 170, 170, 170, 0];
+        assert_eq!(
+            pixels(header(2, 1, 2, 0, 0), &clear, &[0, 0b01_10_00_00]),
+            Ok(sheet)
+        );
+    }
+
+    #[test]
+    fn a_palette() {
+        let parts: [Part; 2] = [
+            (b"PLTE", &[1, 2, 3, 4, 5, 6, 7, 8, 9]),
+            (b"tRNS", &[0, 128]),
+        ];
+        let sheet = vec![7, 8, 9, 255, 1, 2, 3, 0, 4, 5, 6, 128];
+        let rows = [0, 0b10_00_01_00];
+        assert_eq!(pixels(header(3, 1, 2, 3, 0), &parts, &rows), Ok(sheet));
+        let told = pixels(header(3, 1, 2, 3, 0), &parts, &[0, 0b11_00_01_00]);
+        assert!(told.expect_err("entry 3").contains("its palette has not"));
+        let told = pixels(header(3, 1, 2, 3, 0), &[], &rows);
+        assert!(told.expect_err("no palette").contains("without a palette"));
+    }
+
+    #[test]
+    fn every_filter() {
+        // Rows of two pixels; each is [1, 2, 3], [4, 5, 6] and what the filter adds.
+        let rows = [
+            [0, 1, 2, 3, 4, 5, 6],
+            [1, 1, 2, 3, 3, 3, 3],
+            [2, 0, 0, 0, 0, 0, 0],
+            [3, 1, 1, 2, 2, 2, 2],
+            [4, 0, 0, 0, 0, 0, 0],
+        ];
+        let row = [1, 2, 3, 255, 4, 5, 6, 255];
+        let sheet = pixels(header(2, 5, 8, 2, 0), &[], &rows.concat()).expect("a picture");
+        assert_eq!(sheet.chunks_exact(8).collect::<Vec<_>>(), vec![row; 5]);
+        let told = pixels(header(1, 1, 8, 0, 0), &[], &[5, 0]).expect_err("filter 5");
+        assert!(told.contains("a filter that PNG does not know"));
+    }
+
+    /// Each pass holds the places of its pixels, which come to stand in order.
+    #[test]
+    fn interlaced() {
+        for (width, height) in [(1, 1), (3, 2), (5, 5), (8, 8), (9, 13)] {
+            let mut rows = Vec::new();
+            for [x, y, across, down] in ADAM7 {
+                for row in (y..height).step_by(down).filter(|_| x < width) {
+                    rows.push(0);
+                    rows.extend(
+                        (x..width)
+                            .step_by(across)
+                            .map(|column| (row * width + column) as u8),
+                    );
+                }
+            }
+            let sheet = pixels(header(width as u8, height as u8, 8, 0, 1), &[], &rows);
+            let wanted = (0..(width * height) as u8)
+                .flat_map(|i| [i, i, i, 255])
+                .collect();
+            assert_eq!(sheet, Ok(wanted), "{width} x {height}");
+        }
+    }
+
+    #[test]
+    fn chunks_that_may_be_passed_over() {
+        let parts: [Part; 2] = [(b"gAMA", &[0, 0, 177, 143]), (b"tEXt", b"Title\0a ring")];
+        assert_eq!(
+            pixels(header(1, 1, 8, 0, 0), &parts, &[0, 7]),
+            Ok(vec![7, 7, 7, 255])
+        );
+        let parts: [Part; 1] = [(b"RING", &[])];
+        let told = pixels(header(1, 1, 8, 0, 0), &parts, &[0, 7]).expect_err("unknown");
+        assert_eq!(told, "the PNG has a chunk RING, which is not known");
+    }
+
+    #[test]
+    fn faults_are_named() {
+        for (header, rows, said) in [
+            (
+                header(0, 1, 8, 0, 0),
+                &[][..],
+                "0 x 1 pixels, but sides are 1 to 4096",
+            ),
+            (
+                [0, 1, 0, 0, 0, 0, 0, 1, 8, 0, 0, 0, 0],
+                &[],
+                "65536 x 1 pixels",
+            ),
+            (
+                header(1, 1, 3, 0, 0),
+                &[],
+                "a number that PNG does not know",
+            ),
+            (
+                header(1, 1, 4, 2, 0),
+                &[],
+                "a number that PNG does not know",
+            ),
+            (
+                header(1, 1, 8, 5, 0),
+                &[],
+                "a number that PNG does not know",
+            ),
+            (
+                header(1, 1, 8, 0, 2),
+                &[],
+                "a number that PNG does not know",
+            ),
+            (
+                header(1, 2, 8, 0, 0),
+                &[0, 7],
+                "fewer pixels are there than the header says",
+            ),
+            (
+                header(1, 1, 8, 0, 0),
+                &[0, 7, 0, 7],
+                "more pixels are there than the header says",
+            ),
+        ] {
+            let told = pixels(header, &[], rows).expect_err(said);
+            assert!(told.contains(said), "{told}");
+        }
+        let told = read(&file(&[(b"IDAT", &[]), (b"IEND", &[])]));
+        assert!(
+            told.expect_err("no header")
+                .contains("does not begin with a header")
+        );
+    }
+
+    #[test]
+    fn every_cut_and_every_damaged_byte_is_told() {
+        let rows = deflate(&[0, 7]);
+        let header = header(1, 1, 8, 0, 0);
+        let whole = file(&[(b"IHDR", &header), (b"IDAT", &rows), (b"IEND", &[])]);
+        for end in 8..whole.len() {
+            let told = read(&whole[..end]).expect_err("a cut");
+            assert!(told.contains("cut-off"), "{end}: {told}");
+        }
+        for at in 8..whole.len() {
+            let mut damaged = whole.clone();
+            damaged[at] ^= 0x10;
+            assert!(read(&damaged).is_err(), "{at}");
+        }
+    }
+}

@@ -18,7 +18,8 @@ pub fn write(picture: &Picture) -> Vec<u8> {
     file
 }
 
-fn push_chunk(file: &mut Vec<u8>, kind: &[u8; 4], body: &[u8]) {
+/// Adds a chunk with its length and its checksum.
+pub fn push_chunk(file: &mut Vec<u8>, kind: &[u8; 4], body: &[u8]) {
     file.extend((body.len() as u32).to_be_bytes());
     let start = file.len();
     file.extend(kind);
