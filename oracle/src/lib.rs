@@ -5,6 +5,7 @@ pub mod bench;
 pub mod bridge;
 pub mod case;
 pub mod compare;
+pub mod dirty;
 pub mod exact;
 pub mod filter;
 pub mod floats;

@@ -6,7 +6,7 @@ use std::{env, fs};
 
 use oracle::compare::Wanted;
 use oracle::primitives::ALL;
-use oracle::{bench, compare, floats, patterns, places, recipe, stored, unproved};
+use oracle::{bench, compare, dirty, floats, patterns, places, recipe, stored, unproved};
 
 const HELP: &str = "\
 usage: oracle COMMAND
@@ -22,9 +22,12 @@ usage: oracle COMMAND
   places [--calls N]              call displacement_map.rs N times (10,000,000): no pixel comes from beyond its reach
   bench [--slow]                  measure the library beside the Rust, as a Markdown table;
                                   --slow: morphology at radius 40 too
+  dirty WIDTH HEIGHT SOURCE OLD RUST LIBRARY
+                                  compose SOURCE into a destination that holds OLD, by the Rust and by the library;
+                                  all are files of raw premultiplied pixels, the last two are written
   unproved                        print the C functions over those of an unproved program, for ./edits
 
-compare, patterns and bench use target/staticlib/libnuprikhen.a of the repository; build it first
+compare, patterns, bench and dirty use target/staticlib/libnuprikhen.a of the repository; build it first
 (rt staticlib nuprikhen) and run this program by `cargo run --release --`, which links it.
 Names: to_bytes round_to_i32s sqrt32 sqrt64 to_f32s copy clear morphology color_matrix composite component_transfer
 convolve_matrix displacement_map turbulence diffuse_lighting specular_lighting messages.
@@ -50,6 +53,18 @@ fn main() -> ExitCode {
         },
         ["bench"] => bench::run(false),
         ["bench", "--slow"] => bench::run(true),
+        ["dirty", width, height, source, old, rust, library] => {
+            let files = dirty::Files {
+                source,
+                old,
+                rust,
+                library,
+            };
+            match (width.parse(), height.parse()) {
+                (Ok(width), Ok(height)) => status(dirty::run(width, height, &files)),
+                _ => wrong(),
+            }
+        }
         ["unproved"] => {
             print!(
                 "{}",
