@@ -2,6 +2,7 @@
 
 mod files;
 mod kinds;
+mod message;
 mod pam;
 mod picture;
 mod png;
