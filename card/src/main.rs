@@ -1,8 +1,6 @@
 //! Filters a PNG or PAM picture by a recipe, through the proved library. help.txt says how.
 
 mod files;
-mod kinds;
-mod message;
 mod pam;
 mod picture;
 mod png;

@@ -2,17 +2,21 @@
 
 use std::path::Path;
 
+use nuprikhen::color_matrix::ColorMatrix;
+use nuprikhen::component_transfer::TransferFunction;
+use nuprikhen::convolve_matrix::{ConvolveMatrix, EdgeMode};
+use nuprikhen::displacement_map::ColorChannel;
+use nuprikhen::lighting::{Color, LightSource};
+use nuprikhen::morphology::MorphologyOperator::{Dilate, Erode};
 use nuprikhen::recipe::{Kind, Recipe, Sheets};
 
 use crate::files;
-use crate::kinds;
-use crate::message::Message;
 
 /// A file of more bytes is no message: 16 steps with 16,384 numbers are far fewer.
 const MESSAGE_LIMIT: u64 = 1 << 24;
 
-/// A name, and what makes the message.
-type BuiltIn = (&'static str, fn() -> Message);
+/// A name, and what makes the recipe.
+type BuiltIn = (&'static str, fn() -> Recipe);
 
 /// In the order of the help.
 const BUILT_IN: [BuiltIn; 9] = [
@@ -23,19 +27,11 @@ const BUILT_IN: [BuiltIn; 9] = [
     ("edges", edges),
     ("ripple", ripple),
     ("clouds", clouds),
-    ("dilate", || morphology(0, 4.0)),
-    ("erode", || morphology(1, 4.0)),
+    ("dilate", || {
+        Recipe::new().morphology(0, 1, Dilate, 4.0, 4.0)
+    }),
+    ("erode", || Recipe::new().morphology(0, 1, Erode, 4.0, 4.0)),
 ];
-
-// The codes of steps.
-const MORPHOLOGY: u32 = 1;
-const COLOUR_MATRIX: u32 = 2;
-const COMPONENT_TRANSFER: u32 = 3;
-const ARITHMETIC: u32 = 4;
-const CONVOLVE: u32 = 5;
-const DISPLACEMENT: u32 = 6;
-const TURBULENCE: u32 = 7;
-const DIFFUSE_LIGHTING: u32 = 8;
 
 /// Each colour halved, and half of white.
 #[rustfmt::skip]
@@ -55,109 +51,79 @@ const CLOUDS: [f32; 20] = [
     4.0, 0.0, 0.0, 0.0, -1.6,
 ];
 
-/// Steps that several recipes have.
-impl Message {
-    /// A matrix of 20 numbers.
-    fn colour_matrix(self, slots: [u32; 2], numbers: &[f32]) -> Message {
-        self.step(COLOUR_MATRIX, &slots).numbers(&[0]).list(numbers)
+/// A square kernel, its target in the middle; beyond the edges the nearest pixel counts.
+fn kernel(numbers: &[f32], divisor: f32) -> ConvolveMatrix<'_> {
+    let side = numbers.len().isqrt() as u32;
+    ConvolveMatrix {
+        columns: side,
+        rows: side,
+        target_x: side / 2,
+        target_y: side / 2,
+        matrix: numbers,
+        divisor,
+        bias: 0.0,
+        edge_mode: EdgeMode::Duplicate,
     }
+}
 
-    /// A square kernel, its target in the middle; beyond the edges the nearest pixel counts.
-    fn convolve(self, slots: [u32; 2], kernel: &[f32], divisor: f32, keeps_alpha: bool) -> Message {
-        let side = kernel.len().isqrt() as u32;
-        self.step(CONVOLVE, &slots)
-            .numbers(&[side, side, side / 2, side / 2])
-            .list(kernel)
-            .floats(&[divisor, 0.0])
-            .numbers(&[1, keeps_alpha.into()])
-    }
-
-    /// A kernel of a single 1 that preserves alpha premultiplies.
-    fn premultiply(self, slots: [u32; 2]) -> Message {
-        self.convolve(slots, &[1.0], 1.0, true)
-    }
-
-    /// Fractal noise.
-    fn noise(self, output: u32, frequencies: [f64; 2], octaves: u32, seed: u32) -> Message {
-        self.step(TURBULENCE, &[output])
-            .doubles(&[0.0, 0.0, 1.0, 1.0])
-            .doubles(&frequencies)
-            .numbers(&[octaves, seed, 1])
-    }
+/// A kernel of a single 1 that preserves alpha: it premultiplies.
+fn premultiply(recipe: Recipe, input: u32, output: u32) -> Recipe {
+    recipe.convolve_matrix_preserving_alpha(input, output, &kernel(&[1.0], 1.0))
 }
 
 /// The picture under the light that its brightness, a little blurred, throws back.
-fn relief() -> Message {
-    let luminance_to_alpha = 3;
-    Message::default()
-        .step(COLOUR_MATRIX, &[0, 1])
-        .numbers(&[luminance_to_alpha])
-        .premultiply([1, 2])
-        .convolve([2, 1], &[1.0; 9], 9.0, false)
-        // Surface scale and constant, white, and a distant light.
-        .step(DIFFUSE_LIGHTING, &[1, 2])
-        .floats(&[4.0, 1.5])
-        .numbers(&[255, 255, 255, 0])
-        .floats(&[-0.48, -0.6, 0.64])
-        .premultiply([2, 1])
-        .premultiply([0, 2])
-        .step(ARITHMETIC, &[2, 1, 3])
-        .floats(&[1.0, 0.0, 0.0, 0.0])
-}
-
-/// Dilation, operator 0, or erosion, operator 1.
-fn morphology(operator: u32, radius: f32) -> Message {
-    Message::default()
-        .step(MORPHOLOGY, &[0, 1])
-        .numbers(&[operator])
-        .floats(&[radius, radius])
+fn relief() -> Recipe {
+    let light = LightSource::Distant(-0.48, -0.6, 0.64);
+    let white = Color {
+        red: 255,
+        green: 255,
+        blue: 255,
+    };
+    let bright = Recipe::new().color_matrix(0, 1, &ColorMatrix::LuminanceToAlpha);
+    let lit = premultiply(bright, 1, 2)
+        .convolve_matrix(2, 1, &kernel(&[1.0; 9], 9.0))
+        .diffuse_lighting(1, 2, light, 4.0, 1.5, white);
+    premultiply(premultiply(lit, 2, 1), 0, 2).arithmetic(2, 1, 3, 1.0, 0.0, 0.0, 0.0)
 }
 
 /// The picture dilated, less the picture: what the dilation added round its edges.
-fn outline() -> Message {
-    morphology(0, 2.0)
-        .step(ARITHMETIC, &[1, 0, 3])
-        .floats(&[0.0, 1.0, -1.0, 0.0])
+fn outline() -> Recipe {
+    Recipe::new()
+        .morphology(0, 1, Dilate, 2.0, 2.0)
+        .arithmetic(1, 0, 3, 0.0, 1.0, -1.0, 0.0)
 }
 
-fn fade() -> Message {
-    Message::default().colour_matrix([0, 1], &FADE)
+fn fade() -> Recipe {
+    Recipe::new().color_matrix(0, 1, &ColorMatrix::Matrix(&FADE))
 }
 
 /// Each colour is cut down to one of four levels; alpha is left alone.
-fn poster() -> Message {
-    let (identity, discrete) = (0, 2);
-    let step = Message::default().step(COMPONENT_TRANSFER, &[0, 1]);
-    let levels = |step: Message, _| step.numbers(&[discrete]).list(&[0.0, 0.34, 0.67, 1.0]);
-    (0..3).fold(step, levels).numbers(&[identity])
+fn poster() -> Recipe {
+    let levels = TransferFunction::Discrete(&[0.0, 0.34, 0.67, 1.0]);
+    Recipe::new().component_transfer(0, 1, &levels, &levels, &levels, &TransferFunction::Identity)
 }
 
 /// Each colour against its eight neighbours'.
-fn edges() -> Message {
-    let mut kernel = [-1.0; 9];
-    kernel[4] = 8.0;
-    Message::default().convolve([0, 1], &kernel, 1.0, true)
+fn edges() -> Recipe {
+    let mut numbers = [-1.0; 9];
+    numbers[4] = 8.0;
+    Recipe::new().convolve_matrix_preserving_alpha(0, 1, &kernel(&numbers, 1.0))
 }
 
 /// Moved by noise, as if seen through water.
-fn ripple() -> Message {
-    let (red, green) = (0, 1);
-    Message::default()
-        .noise(1, [0.01, 0.03], 1, 3)
-        .step(DISPLACEMENT, &[0, 1, 2])
-        .numbers(&[red, green])
-        .floats(&[1.0, 1.0, 32.0])
+fn ripple() -> Recipe {
+    let (x, y) = (ColorChannel::R, ColorChannel::G);
+    Recipe::new()
+        .turbulence(1, 0.0, 0.0, 1.0, 1.0, 0.01, 0.03, 1, 3, true)
+        .displacement_map(0, 1, 2, x, y, 1.0, 1.0, 32.0)
 }
 
 /// Noise screened over the picture.
-fn clouds() -> Message {
-    Message::default()
-        .noise(1, [0.006, 0.02], 4, 7)
-        .colour_matrix([1, 2], &CLOUDS)
-        .premultiply([2, 1])
-        .premultiply([0, 2])
-        .step(ARITHMETIC, &[2, 1, 3])
-        .floats(&[-1.0, 1.0, 1.0, 0.0])
+fn clouds() -> Recipe {
+    let noise = Recipe::new()
+        .turbulence(1, 0.0, 0.0, 1.0, 1.0, 0.006, 0.02, 4, 7, true)
+        .color_matrix(1, 2, &ColorMatrix::Matrix(&CLOUDS));
+    premultiply(premultiply(noise, 2, 1), 0, 2).arithmetic(2, 1, 3, -1.0, 1.0, 1.0, 0.0)
 }
 
 /// A recipe that no test refuses, with the kinds of its source and its result.
@@ -169,10 +135,13 @@ pub struct Ready {
 }
 
 impl Ready {
-    /// Reads the message, and tests the recipe on a single pixel: no test looks at what a sheet holds.
-    fn new(message: &[u8]) -> Result<Ready, String> {
-        let recipe = Recipe::from_bytes(message).map_err(|refusal| refusal.to_string())?;
-        let (source, result) = kinds::of(&recipe);
+    /// Tests the recipe on a single pixel: no test looks at what a sheet holds. A source that may be of either kind
+    /// is straight, as files are.
+    fn new(recipe: Recipe) -> Result<Ready, String> {
+        let mut kinds = [Kind::Straight, Kind::Premultiplied].into_iter();
+        let (source, result) = kinds
+            .find_map(|source| Some((source, recipe.result_kind(source)?)))
+            .unwrap_or((Kind::Straight, Kind::Straight));
         let pixel = Sheets::new(source, 1, 1, [0; 4]);
         recipe
             .reaches(&pixel)
@@ -188,10 +157,12 @@ impl Ready {
 /// The recipe that is asked for: a file's, where the name ends in .recipe, else a built-in one.
 pub fn named(name: &Path) -> Result<Ready, String> {
     if files::ends_in(name, "recipe") {
-        return Ready::new(&files::read(name, MESSAGE_LIMIT)?);
+        let message = files::read(name, MESSAGE_LIMIT)?;
+        let recipe = Recipe::from_bytes(&message).map_err(|refusal| refusal.to_string())?;
+        return Ready::new(recipe);
     }
     match BUILT_IN.iter().find(|(known, _)| name == Path::new(known)) {
-        Some((_, message)) => Ready::new(&message().bytes()),
+        Some((_, recipe)) => Ready::new(recipe()),
         None => {
             let known = BUILT_IN.map(|(name, _)| name).join(", ");
             Err(format!(

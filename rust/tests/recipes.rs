@@ -351,3 +351,36 @@ fn a_wrong_message_tells_its_place() {
     assert_eq!(offset(&[1, 1, 0x80, 0]), 2);
     assert_eq!(offset(&[0x80, 0x80, 0x80, 0x80, 0x10]), 0);
 }
+
+/// A source is taken exactly where the result has a kind, and then a step is taken that wants this kind alone. Of
+/// these recipes each that is taken writes its last output to the slot of as many steps as it has.
+#[test]
+fn the_kind_of_a_result() {
+    let (x, y) = (ColorChannel::R, ColorChannel::G);
+    let map = Recipe::new().turbulence(1, 0.0, 0.0, 1.0, 1.0, 0.05, 0.1, 1, 7, true);
+    let moved = map.displacement_map(0, 1, 2, x, y, 1.0, 1.0, 20.0);
+    let wrong_slots = [
+        Recipe::new(),
+        dilate(Recipe::new(), 0, 0),
+        dilate(Recipe::new(), 0, 4),
+        dilate(dilate(Recipe::new(), 0, 1), 1, 1),
+    ];
+    let three = dilate(moved.clone(), 2, 3);
+    let recipes = every_step().into_iter().chain([moved, three]);
+    for recipe in recipes.chain(wrong_slots) {
+        for source in [Kind::Straight, Kind::Premultiplied] {
+            let sheets = Sheets::new(source, 1, 1, [0; 4]);
+            let taken = |recipe: &Recipe| recipe.reaches(&sheets).is_ok();
+            let kind = recipe.result_kind(source);
+            assert_eq!(kind.is_some(), taken(&recipe), "{recipe:?} of {source:?}");
+            let Some(kind) = kind else { continue };
+            let output = u32::from(recipe.to_bytes()[0]);
+            let saturate = ColorMatrix::Saturate(1.0);
+            let next = output % 3 + 1;
+            let straight = recipe.clone().color_matrix(output, next, &saturate);
+            let premultiplied = dilate(recipe.clone(), output, next);
+            assert_eq!(taken(&straight), kind == Kind::Straight, "{recipe:?}");
+            assert_eq!(taken(&premultiplied), kind == Kind::Premultiplied);
+        }
+    }
+}

@@ -57,15 +57,23 @@ impl Step {
         self.0[0]
     }
 
-    pub fn output(&self) -> u32 {
+    /// Its inputs, and its output.
+    pub fn slots(&self) -> (Vec<u32>, u32) {
         let mut reader = Reader(&self.0);
         let inputs = match reader.number() {
             7 => 0,
             4 | 6 => 2,
             _ => 1,
         };
-        reader.skip(inputs);
-        reader.number()
+        (
+            (0..inputs).map(|_| reader.number()).collect(),
+            reader.number(),
+        )
+    }
+
+    /// Of a convolve matrix: its last number says so.
+    pub fn preserves_alpha(&self) -> bool {
+        self.0.last() == Some(&1)
     }
 }
 

@@ -1,6 +1,7 @@
 //! Recipes: several filters in a row over four sheets, and their bytes, which can be stored and sent.
 
 mod bytes;
+mod kinds;
 mod sheets;
 
 pub use sheets::{Kind, Sheets};
@@ -487,7 +488,7 @@ impl Recipe {
 
     /// The index of the working slot that the last step of an accepted recipe writes.
     fn result(&self) -> usize {
-        let output = self.steps.last().map_or(1, Step::output);
+        let output = self.steps.last().map_or(1, |step| step.slots().1);
         output.saturating_sub(1).min(2) as usize
     }
 
