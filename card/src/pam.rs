@@ -291,78 +291,40 @@ mod tests {
         assert_eq!(halved, Ok(128));
     }
 
-    /// Each fault and its words, for a header that is otherwise right.
+    /// A piece of a right header, what stands in its place, and the words for it.
+    #[rustfmt::skip]
+    const FAULTS: [(&str, &str, &str); 25] = [
+        ("\n", "\r", "lines end in CR alone"),
+        ("P7", "P7 332", "`P7` is not alone in its line: `332` follows"),
+        ("ENDHDR\n", "", "unknown line"),
+        ("ENDHDR\n", "", "or no ENDHDR before it"),
+        ("WIDTH 3\n", "", "no WIDTH"),
+        ("HEIGHT 1\n", "", "no HEIGHT"),
+        ("DEPTH 4\n", "", "no DEPTH"),
+        ("MAXVAL 255\n", "", "no MAXVAL"),
+        ("WIDTH 3", "WIDTH", "WIDTH has no number"),
+        ("WIDTH 3", "WIDTH -3", "WIDTH is `-3`, which is no whole number"),
+        ("WIDTH 3", "WIDTH 3 1", "WIDTH is `3 1`, which is no whole number"),
+        ("WIDTH 3", "COLOUR 3", "unknown line `COLOUR 3`"),
+        ("WIDTH 3", " # 3\nWIDTH 3", "unknown line `# 3`"),
+        ("WIDTH 3", "WIDTH 0", "0 x 1 pixels, but sides are 1 to 4096"),
+        ("WIDTH 3", "WIDTH 4097", "4097 x 1 pixels, but sides are 1 to 4096"),
+        ("HEIGHT 1", "HEIGHT 99999999999999999999", "3 x 99999999999999999999 pixels"),
+        ("HEIGHT 1", "HEIGHT 2", "are 24 bytes, but 12 follow the header"),
+        ("WIDTH 3", "WIDTH 2", "4 bytes too many follow the pixels"),
+        ("MAXVAL 255", "MAXVAL 0", "MAXVAL 0, but it is 1 to 65535"),
+        ("MAXVAL 255", "MAXVAL 65536", "MAXVAL 65536, but it is 1 to 65535"),
+        ("MAXVAL 255", "MAXVAL 200", "a sample is 255, above MAXVAL 200"),
+        ("DEPTH 4", "DEPTH 5", "DEPTH 5, but 1 to 4 are read"),
+        ("RGB_ALPHA", "RGB", "TUPLTYPE RGB has DEPTH 3, not 4"),
+        ("RGB_ALPHA", "RGB\nTUPLTYPE ALPHA", "TUPLTYPE RGB ALPHA, which is not known"),
+        ("RGB_ALPHA", "", "TUPLTYPE says nothing"),
+    ];
+
     #[test]
     fn faults_are_named() {
         let all = "P7\nWIDTH 3\nHEIGHT 1\nDEPTH 4\nMAXVAL 255\nTUPLTYPE RGB_ALPHA\nENDHDR\n";
-        for (old, new, said) in [
-            ("\n", "\r", "lines end in CR alone"),
-            (
-                "P7",
-                "P7 332",
-                "`P7` is not alone in its line: `332` follows",
-            ),
-            ("ENDHDR\n", "", "unknown line"),
-            ("ENDHDR\n", "", "or no ENDHDR before it"),
-            ("WIDTH 3\n", "", "no WIDTH"),
-            ("HEIGHT 1\n", "", "no HEIGHT"),
-            ("DEPTH 4\n", "", "no DEPTH"),
-            ("MAXVAL 255\n", "", "no MAXVAL"),
-            ("WIDTH 3", "WIDTH", "WIDTH has no number"),
-            (
-                "WIDTH 3",
-                "WIDTH -3",
-                "WIDTH is `-3`, which is no whole number",
-            ),
-            (
-                "WIDTH 3",
-                "WIDTH 3 1",
-                "WIDTH is `3 1`, which is no whole number",
-            ),
-            ("WIDTH 3", "COLOUR 3", "unknown line `COLOUR 3`"),
-            ("WIDTH 3", " # 3\nWIDTH 3", "unknown line `# 3`"),
-            (
-                "WIDTH 3",
-                "WIDTH 0",
-                "0 x 1 pixels, but sides are 1 to 4096",
-            ),
-            (
-                "WIDTH 3",
-                "WIDTH 4097",
-                "4097 x 1 pixels, but sides are 1 to 4096",
-            ),
-            (
-                "HEIGHT 1",
-                "HEIGHT 99999999999999999999",
-                "3 x 99999999999999999999 pixels",
-            ),
-            (
-                "HEIGHT 1",
-                "HEIGHT 2",
-                "are 24 bytes, but 12 follow the header",
-            ),
-            ("WIDTH 3", "WIDTH 2", "4 bytes too many follow the pixels"),
-            ("MAXVAL 255", "MAXVAL 0", "MAXVAL 0, but it is 1 to 65535"),
-            (
-                "MAXVAL 255",
-                "MAXVAL 65536",
-                "MAXVAL 65536, but it is 1 to 65535",
-            ),
-            (
-                "MAXVAL 255",
-                "MAXVAL 200",
-                "a sample is 255, above MAXVAL 200",
-            ),
-            ("DEPTH 4", "DEPTH 5", "DEPTH 5, but 1 to 4 are read"),
-            ("RGB_ALPHA", "RGB", "TUPLTYPE RGB has DEPTH 3, not 4"),
-            ("RGB_ALPHA", "CMYK", "TUPLTYPE CMYK, which is not known"),
-            (
-                "RGB_ALPHA",
-                "RGB\nTUPLTYPE ALPHA",
-                "TUPLTYPE RGB ALPHA, which",
-            ),
-            ("RGB_ALPHA", "", "TUPLTYPE says nothing"),
-        ] {
+        for (old, new, said) in FAULTS {
             assert!(all.contains(old), "{old}");
             let told = with(&all.replace(old, new), &ROW).expect_err(new);
             assert!(told.contains(said), "{new}: {told}");

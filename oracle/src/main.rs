@@ -23,8 +23,8 @@ usage: oracle COMMAND
   bench [--slow]                  measure the library beside the Rust, as a Markdown table;
                                   --slow: morphology at radius 40 too
   dirty WIDTH HEIGHT SOURCE OLD RUST LIBRARY
-                                  compose SOURCE into a destination that holds OLD, by the Rust and by the library;
-                                  all are files of raw premultiplied pixels, the last two are written
+                                  compose SOURCE into a destination that holds OLD, by the Rust and by the
+                                  library; all are files of raw premultiplied pixels, the last two are written
   unproved                        print the C functions over those of an unproved program, for ./edits
 
 compare, patterns, bench and dirty use target/staticlib/libnuprikhen.a of the repository; build it first
@@ -53,18 +53,7 @@ fn main() -> ExitCode {
         },
         ["bench"] => bench::run(false),
         ["bench", "--slow"] => bench::run(true),
-        ["dirty", width, height, source, old, rust, library] => {
-            let files = dirty::Files {
-                source,
-                old,
-                rust,
-                library,
-            };
-            match (width.parse(), height.parse()) {
-                (Ok(width), Ok(height)) => status(dirty::run(width, height, &files)),
-                _ => wrong(),
-            }
-        }
+        ["dirty", width, height, ref files @ ..] => compose(width, height, files),
         ["unproved"] => {
             print!(
                 "{}",
@@ -78,6 +67,21 @@ fn main() -> ExitCode {
         }
         _ => wrong(),
     }
+}
+
+fn compose(width: &str, height: &str, files: &[&str]) -> ExitCode {
+    let (Ok(width), Ok(height), &[source, old, rust, library]) =
+        (width.parse(), height.parse(), files)
+    else {
+        return wrong();
+    };
+    let files = dirty::Files {
+        source,
+        old,
+        rust,
+        library,
+    };
+    status(dirty::run(width, height, &files))
 }
 
 fn wrong() -> ExitCode {

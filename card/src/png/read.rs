@@ -111,6 +111,16 @@ fn chunk(bytes: &[u8]) -> Result<Chunk<'_>, String> {
     Ok((kind, &whole[4..], after))
 }
 
+/// The bits that samples of this colour may have.
+fn depths(colour: u8) -> &'static [u8] {
+    match colour {
+        0 => &[1, 2, 4, 8, 16],
+        3 => &[1, 2, 4, 8],
+        2 | 4 | 6 => &[8, 16],
+        _ => &[],
+    }
+}
+
 impl Header {
     fn new(body: &[u8]) -> Result<Header, String> {
         let &[
@@ -131,20 +141,10 @@ impl Header {
         else {
             return Err("a damaged PNG: its header has a wrong length".to_string());
         };
-        let (width, height) = (
-            u32::from_be_bytes([a, b, c, d]),
-            u32::from_be_bytes([e, f, g, h]),
-        );
-        let told = [width, height].map(|side| (side.to_string(), u64::from(side)));
-        let [(w, wide), (h, high)] = &told;
-        test_sides((w, *wide), (h, *high))?;
-        let depths: &[u8] = match colour {
-            0 => &[1, 2, 4, 8, 16],
-            3 => &[1, 2, 4, 8],
-            2 | 4 | 6 => &[8, 16],
-            _ => &[],
-        };
-        if !depths.contains(&depth) || compression != 0 || filter != 0 || interlace > 1 {
+        let [width, height] = [[a, b, c, d], [e, f, g, h]].map(u32::from_be_bytes);
+        let [w, h] = [width, height].map(|side| side.to_string());
+        test_sides((&w, width.into()), (&h, height.into()))?;
+        if !depths(colour).contains(&depth) || compression != 0 || filter != 0 || interlace > 1 {
             return Err(
                 "a damaged PNG: its header has a number that PNG does not know".to_string(),
             );
@@ -449,57 +449,29 @@ mod tests {
     }
 
     #[test]
-    fn faults_are_named() {
-        for (header, rows, said) in [
-            (
-                header(0, 1, 8, 0, 0),
-                &[][..],
-                "0 x 1 pixels, but sides are 1 to 4096",
-            ),
-            (
-                [0, 1, 0, 0, 0, 0, 0, 1, 8, 0, 0, 0, 0],
-                &[],
-                "65536 x 1 pixels",
-            ),
-            (
-                header(1, 1, 3, 0, 0),
-                &[],
-                "a number that PNG does not know",
-            ),
-            (
-                header(1, 1, 4, 2, 0),
-                &[],
-                "a number that PNG does not know",
-            ),
-            (
-                header(1, 1, 8, 5, 0),
-                &[],
-                "a number that PNG does not know",
-            ),
-            (
-                header(1, 1, 8, 0, 2),
-                &[],
-                "a number that PNG does not know",
-            ),
-            (
-                header(1, 2, 8, 0, 0),
-                &[0, 7],
-                "fewer pixels are there than the header says",
-            ),
-            (
-                header(1, 1, 8, 0, 0),
-                &[0, 7, 0, 7],
-                "more pixels are there than the header says",
-            ),
-        ] {
-            let told = pixels(header, &[], rows).expect_err(said);
-            assert!(told.contains(said), "{told}");
-        }
-        let told = read(&file(&[(b"IDAT", &[]), (b"IEND", &[])]));
-        assert!(
-            told.expect_err("no header")
-                .contains("does not begin with a header")
+    fn wrong_headers_are_named() {
+        let tiny = |header| pixels(header, &[], &[0, 7]).expect_err("a wrong header");
+        let sides = "but sides are 1 to 4096";
+        assert_eq!(
+            tiny(header(0, 1, 8, 0, 0)),
+            format!("0 x 1 pixels, {sides}")
         );
+        let wide = [0, 1, 0, 0, 0, 0, 0, 1, 8, 0, 0, 0, 0];
+        assert_eq!(tiny(wide), format!("65536 x 1 pixels, {sides}"));
+        for (depth, colour, interlace) in [(3, 0, 0), (4, 2, 0), (16, 3, 0), (8, 5, 0), (8, 0, 2)] {
+            let told = tiny(header(1, 1, depth, colour, interlace));
+            assert!(told.ends_with("a number that PNG does not know"), "{told}");
+        }
+        let told = read(&file(&[(b"IDAT", &[]), (b"IEND", &[])])).expect_err("no header");
+        assert!(told.ends_with("it does not begin with a header"), "{told}");
+    }
+
+    #[test]
+    fn too_few_and_too_many_pixels_are_told() {
+        let told = pixels(header(1, 2, 8, 0, 0), &[], &[0, 7]).expect_err("too few");
+        assert!(told.contains("fewer pixels are there than the header says"));
+        let told = pixels(header(1, 1, 8, 0, 0), &[], &[0, 7, 0, 7]).expect_err("too many");
+        assert!(told.contains("more pixels are there than the header says"));
     }
 
     #[test]
