@@ -106,11 +106,20 @@ fn other(bytes: &[u8], path: &Path) -> String {
         matches!(bytes, [b'P', b'1'..=b'6', ..]).then_some("a picture of netpbm's older kinds");
     match known.map(|(_, name)| *name).or(plain) {
         Some(name) => {
-            let from = shown(path);
-            let to = shown(&path.with_extension("png"));
+            let (from, to) = (quoted(path), quoted(&path.with_extension("png")));
             format!("{name}; {takes} (convert it: magick {from} {to})")
         }
         None => format!("of no known kind; {takes}"),
+    }
+}
+
+/// A path as a shell's word.
+fn quoted(path: &Path) -> String {
+    let path = shown(path);
+    let plain = |letter: char| letter.is_alphanumeric() || "._-/".contains(letter);
+    match path.chars().all(plain) {
+        true => path,
+        false => format!("'{}'", path.replace('\'', "'\\''")),
     }
 }
 
@@ -265,6 +274,8 @@ mod tests {
         let told = other(b"\xff\xd8\xff\xe0", path);
         let said = "a JPEG; card reads PNG and PAM (convert it: magick my/photo.jpg my/photo.png)";
         assert_eq!(told, said);
+        let told = other(b"GIF89a", Path::new("a ship's.gif"));
+        assert!(told.ends_with(r"(convert it: magick 'a ship'\''s.gif' 'a ship'\''s.png')"));
         assert!(other(b"P6\n1 1\n255\n", path).starts_with("a picture of netpbm's older kinds;"));
         assert_eq!(other(b"", path), "an empty file; card reads PNG and PAM");
         assert_eq!(
