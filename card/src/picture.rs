@@ -1,9 +1,7 @@
 //! A picture in memory, and its colour with alpha multiplied in or taken out.
 
+use nuprikhen::SIDE_LIMIT;
 use nuprikhen::recipe::Kind;
-
-/// The longest side that the library takes.
-pub const SIDE_LIMIT: u32 = 4096;
 
 /// r, g, b, a of each pixel, row by row; the colour is straight, as files hold it.
 #[derive(Clone, Debug, PartialEq)]
