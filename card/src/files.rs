@@ -102,9 +102,12 @@ fn other(bytes: &[u8], path: &Path) -> String {
         return format!("an empty file; {takes}");
     }
     let known = OTHERS.iter().find(|(start, _)| bytes.starts_with(start));
-    let plain =
-        matches!(bytes, [b'P', b'1'..=b'6', ..]).then_some("a picture of netpbm's older kinds");
-    match known.map(|(_, name)| *name).or(plain) {
+    let name = match bytes {
+        [b'P', b'1'..=b'6', ..] => Some("a picture of netpbm's older kinds"),
+        [_, _, _, _, b'f', b't', b'y', b'p', ..] => Some("a HEIC, an AVIF or a film"),
+        _ => known.map(|(_, name)| *name),
+    };
+    match name {
         Some(name) => {
             let (from, to) = (quoted(path), quoted(&path.with_extension("png")));
             format!("{name}; {takes} (convert it: magick {from} {to})")
@@ -277,6 +280,7 @@ mod tests {
         let told = other(b"GIF89a", Path::new("a ship's.gif"));
         assert!(told.ends_with(r"(convert it: magick 'a ship'\''s.gif' 'a ship'\''s.png')"));
         assert!(other(b"P6\n1 1\n255\n", path).starts_with("a picture of netpbm's older kinds;"));
+        assert!(other(b"\0\0\0\x18ftypheic", path).starts_with("a HEIC, an AVIF or a film;"));
         assert_eq!(other(b"", path), "an empty file; card reads PNG and PAM");
         assert_eq!(
             other(b"words", path),

@@ -3,7 +3,6 @@
 use crate::picture::{Picture, test_sides, to_byte};
 
 /// A number of the header, and how it stands there.
-#[derive(Clone, Default)]
 struct Number {
     text: String,
     value: u64,
