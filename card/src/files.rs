@@ -110,7 +110,7 @@ fn other(bytes: &[u8], path: &Path) -> String {
     match name {
         Some(name) => {
             let (from, to) = (quoted(path), quoted(&path.with_extension("png")));
-            format!("{name}; {takes} (convert it: magick {from} {to})")
+            format!("{name}; {takes} (ImageMagick makes one: convert {from} {to})")
         }
         None => format!("of no known kind; {takes}"),
     }
@@ -275,10 +275,13 @@ mod tests {
     fn other_kinds_are_named() {
         let path = Path::new("my/photo.jpg");
         let told = other(b"\xff\xd8\xff\xe0", path);
-        let said = "a JPEG; card reads PNG and PAM (convert it: magick my/photo.jpg my/photo.png)";
+        let said = "a JPEG; card reads PNG and PAM \
+            (ImageMagick makes one: convert my/photo.jpg my/photo.png)";
         assert_eq!(told, said);
         let told = other(b"GIF89a", Path::new("a ship's.gif"));
-        assert!(told.ends_with(r"(convert it: magick 'a ship'\''s.gif' 'a ship'\''s.png')"));
+        assert!(
+            told.ends_with(r"(ImageMagick makes one: convert 'a ship'\''s.gif' 'a ship'\''s.png')")
+        );
         assert!(other(b"P6\n1 1\n255\n", path).starts_with("a picture of netpbm's older kinds;"));
         assert!(other(b"\0\0\0\x18ftypheic", path).starts_with("a HEIC, an AVIF or a film;"));
         assert_eq!(other(b"", path), "an empty file; card reads PNG and PAM");
