@@ -22,7 +22,7 @@
  * not promised.
  *
  * Stack: no call takes more than NUP_STACK_LIMIT bytes, whatever the size of
- * its sheets: nup_run some 200 KiB, nup_turbulence 130, nup_reaches 75,
+ * its sheets: nup_run some 200 KiB, nup_turbulence 130, nup_reaches 73,
  * nup_convolve_matrix 17, the lightings 10, every other under 4.
  *
  * Time: every call ends. Its time grows with width * height, and that times
@@ -31,8 +31,8 @@
  * nup_turbulence. A recipe takes the sum of its steps, and the time to read
  * the message, all of it even where it is refused. Seen on sheets of the
  * longest sides, by a Neoverse-V1: 2 seconds or less for a single call, but
- * 20 to 25 for a morphology of the largest radii, and 6 to 8 minutes for a
- * recipe of 16 of them; 1 second for 64 MiB of message. Where others send
+ * 20 to 25 for a morphology of the largest radii, and 6 minutes for a recipe
+ * of 16 of them; 1 second for 64 MiB of message. Where others send
  * recipes, bound the sides and the length.
  */
 #ifndef NUPRIKHEN_H

@@ -182,10 +182,14 @@ static nup_answer clear(uint32_t w, uint32_t h, int round, const slice *s) {
     return nup_clear(LEND(s[0]));
 }
 
+static uint32_t of_the_archive(void) {
+    return nup_version();
+}
+
 /* Done where the archive is of the header's version. */
 static nup_answer version(uint32_t w, uint32_t h, int round, const slice *s) {
     (void)w, (void)h, (void)round, (void)s;
-    return (nup_answer){nup_version() == NUP_VERSION ? NUP_DONE : 255, 0};
+    return (nup_answer){of_the_archive() == NUP_VERSION ? NUP_DONE : 255, 0};
 }
 
 static const function functions[] = {
