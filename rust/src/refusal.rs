@@ -289,7 +289,9 @@ impl Refusal {
     fn when(&self) -> &'static str {
         match self {
             Refusal::Size => "width or height outside 1..=4,096",
-            Refusal::Length => "a sheet or scratch is not exactly 4 x width x height bytes",
+            Refusal::Length => {
+                "a sheet or scratch is not exactly 4 x width x height bytes, or two sheets differ in size"
+            }
             Refusal::Shape { .. } => {
                 "a matrix is not of 20 numbers, a table is over 256 entries, or a kernel is misshapen"
             }

@@ -212,7 +212,8 @@ fn sizes_lengths_and_counts() {
     let size = "refused 1 (Size): width or height outside 1..=4,096";
     assert_eq!(said(0, 5, &one), size);
     assert_eq!(said(4097, 5, &one), size);
-    let length = "refused 2 (Length): a sheet or scratch is not exactly 4 x width x height bytes";
+    let length = "refused 2 (Length): a sheet or scratch is not exactly 4 x width x height bytes, \
+                  or two sheets differ in size";
     assert_eq!(said(7, 6, &one), length);
     let steps = "refused 6 (Steps): a recipe of 0 steps or over 16";
     assert_eq!(said(7, 5, &Recipe::new()), steps);
