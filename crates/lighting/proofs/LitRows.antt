@@ -9,18 +9,18 @@ use Rattle.sheet.specs.Pixel.{channel, column, row, byteAt}
 use Rattle.sheet.proofs.Filling.{channel-of}
 use Rattle.sheet.proofs.Places.{column-of-place, row-of-place}
 use Rattle.sheet.proofs.Strips.{changed-as}
+use Rattle.surface.specs.declared.Normal.{Normal}
+use Rattle.surface.specs.declared.Strip.{Strip}
+use Rattle.surface.specs.Surface.{alphaAt}
+use Rattle.surface.specs.inner.Lines.{Placed, normalOf}
 use Rattle.lighting.specs.declared.light.Reflection.{Reflection}
 use Rattle.lighting.specs.declared.light.Ray.{Ray}
-use Rattle.lighting.specs.declared.surface.Normal.{Normal}
-use Rattle.lighting.specs.declared.surface.Strip.{Strip}
 use Rattle.lighting.specs.declared.pixel.Color.{Color}
 use Rattle.lighting.specs.declared.pixel.Lighting.{Lighting}
 use Rattle.lighting.specs.declared.vector.Vector3.{Vector3}
 use Rattle.lighting.specs.Vectors as Vectors
-use Rattle.lighting.specs.Surface.{alphaAt}
 use Rattle.lighting.specs.Light.{lightVector, rayOf, normalVector, lightFactor}
 use Rattle.lighting.specs.Lighting.{litChannel, factorAt, litAt}
-use Rattle.lighting.specs.inner.Lines.{Placed, normalOf}
 use Rattle.lighting.specs.inner.Pixels.{Lit, alongBy, factorAlong}
 use Rattle.lighting.specs.inner.Rays.{rayBy}
 use Rattle.lighting.specs.inner.Rows.{Filled, Sloped, Alongs, factorsBy, rowBy, startOf, LitRow, RowDone}

@@ -35,6 +35,11 @@ use Rattle.sheet.specs.Pixel.{column, row, byteAt}
 use Rattle.sheet.specs.Size.{sideLimit}
 use Rattle.sheet.proofs.Places.{place-inside, column-inside, row-inside, column-of-place, row-of-place}
 use Rattle.sheet.proofs.Apart.{Bytes, Apart, Needed, allBut, length-all-but, at-but, not-at-but, all-same, bytes-inside}
+use Rattle.surface.specs.declared.Normal.{Normal}
+use Rattle.surface.specs.Surface.{alphaAt, ahead, behind, lean, atEdge, leanFactor, normalAt}
+use Rattle.surface.specs.inner.Lines.{factorOf}
+use Rattle.surface.proofs.Rules.{normal}
+use Rattle.surface.proofs.Tilts.{weighted-none, tilt, Tilted, tilted}
 use Rattle.lighting.specs.declared.light.LightSource.{LightSource}
 use Rattle.lighting.specs.declared.light.LightSource.the-variants.{Distant, Point}
 use Rattle.lighting.specs.declared.light.Reflection.{Reflection}
@@ -43,17 +48,12 @@ use Rattle.lighting.specs.declared.light.Ray.{Ray}
 use Rattle.lighting.specs.declared.light.Ray.the-variants.{Light, Short}
 use Rattle.lighting.specs.declared.pixel.Color.{Color}
 use Rattle.lighting.specs.declared.pixel.Lighting.{Lighting}
-use Rattle.lighting.specs.declared.surface.Normal.{Normal}
 use Rattle.lighting.specs.Vectors as Vectors
 use Rattle.lighting.specs.Vectors.{vector}
-use Rattle.lighting.specs.Surface.{alphaAt, ahead, behind, lean, atEdge, leanFactor, normalAt}
 use Rattle.lighting.specs.Light.{toPoint, lightVector, halfRay, rayOf, flat, along, lightFactor}
 use Rattle.lighting.specs.Lighting.{c256, finiteNumbers, numbersInRange, diffuseAnswer, specularAnswer, litColour, colourOf, litChannel, factorAt, small, lit}
 use Rattle.lighting.specs.Reads.{Reads}
-use Rattle.lighting.specs.inner.Lines.{factorOf}
 use Rattle.lighting.proofs.Reading.{byte-lit}
-use Rattle.lighting.proofs.Rules.{normal}
-use Rattle.lighting.proofs.Tilts.{weighted-none, tilt, Tilted, tilted}
 
 abbrev white : Color
 white = record { red = 255; green = 255; blue = 255 }

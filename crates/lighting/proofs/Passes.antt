@@ -14,12 +14,12 @@ use Rattle.floats.specs.Operators.{_⊗_, _⊘_}
 use Rattle.floats.specs.Order.{nearZero}
 use Rattle.floats.specs.Root.{sqrtOf, firstRoots}
 use Rattle.floats.proofs.FirstRoots.{getD-root}
+use Rattle.surface.specs.declared.Normal.{Normal}
+use Rattle.surface.specs.declared.Strip.{Strip}
 use Rattle.lighting.specs.declared.light.Reflection.{Reflection}
 use Rattle.lighting.specs.declared.light.Reflection.the-variants.{Diffuse, Specular}
 use Rattle.lighting.specs.declared.light.LightSource.the-variants.{Distant}
 use Rattle.lighting.specs.declared.light.Ray.the-variants.{Light, Half, Short}
-use Rattle.lighting.specs.declared.surface.Normal.{Normal}
-use Rattle.lighting.specs.declared.surface.Strip.{Strip}
 use Rattle.lighting.specs.declared.vector.Vector3.{Vector3}
 use Rattle.lighting.specs.declared.pixel.Lighting.{Lighting}
 use Rattle.lighting.specs.Vectors as Vectors

@@ -9,11 +9,11 @@ use Rattle.sheet.specs.Tabulate.{tabulate, zeros}
 use Rattle.sheet.specs.Pixel.{column, row, byteAt, Near}
 use Rattle.sheet.proofs.Places.{place-inside, column-inside, row-inside}
 use Rattle.sheet.proofs.Tabulated.{length-tabulate, getD-tabulate, length-zeros, getD-zeros}
+use Rattle.surface.specs.Surface.{alphaAt, normalAt}
+use Rattle.surface.proofs.Leans.{lean-ext}
 use Rattle.lighting.specs.declared.pixel.Lighting.{Lighting}
-use Rattle.lighting.specs.Surface.{alphaAt, normalAt}
 use Rattle.lighting.specs.Lighting.{litChannel, factorAt, litAt, small, lit}
 use Rattle.lighting.specs.Reads.{Reads}
-use Rattle.lighting.proofs.Leans.{lean-ext}
 
 -- the sheets agree on what byte k reads
 abbrev pub Alike : (w h k : ℕ) → List ℕ → List ℕ → Type 0

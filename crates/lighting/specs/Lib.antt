@@ -1,5 +1,4 @@
 pub mod Vectors
-pub mod Surface
 pub mod Light
 pub mod Lighting
 pub mod Reads

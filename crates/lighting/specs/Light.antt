@@ -7,6 +7,7 @@ use Rattle.floats.specs.Channel.{normalized}
 use Rattle.floats.specs.Constants.{c0, c1, c255}
 use Rattle.floats.specs.Operators.{_⊗_, _⊘_}
 use Rattle.floats.specs.Order.{nearZero}
+use Rattle.surface.specs.declared.Normal.{Normal}
 use Rattle.lighting.specs.declared.vector.Vector3.{Vector3}
 use Rattle.lighting.specs.declared.light.LightSource.{LightSource}
 use Rattle.lighting.specs.declared.light.LightSource.the-variants.{Distant, Point}
@@ -14,7 +15,6 @@ use Rattle.lighting.specs.declared.light.Reflection.{Reflection}
 use Rattle.lighting.specs.declared.light.Reflection.the-variants.{Diffuse, Specular}
 use Rattle.lighting.specs.declared.light.Ray.{Ray}
 use Rattle.lighting.specs.declared.light.Ray.the-variants.{Light, Half, Short}
-use Rattle.lighting.specs.declared.surface.Normal.{Normal}
 use Rattle.lighting.specs.Vectors.{vector, add, sub, dot, length, unitOf}
 
 -- from the surface of a pixel in column x and row y, whose alpha is a, to a point

@@ -17,13 +17,13 @@ use Rattle.sheet.specs.Answer.{refusal, andThen}
 use Rattle.sheet.specs.Size.{sheetsAnswer}
 use Rattle.sheet.specs.Tabulate.{tabulate, zeros}
 use Rattle.sheet.specs.Pixel.{column, row}
+use Rattle.surface.specs.Surface.{alphaAt, normalAt}
 use Rattle.lighting.specs.declared.light.LightSource.{LightSource}
 use Rattle.lighting.specs.declared.light.LightSource.the-variants.{Distant, Point}
 use Rattle.lighting.specs.declared.light.Reflection.{Reflection}
 use Rattle.lighting.specs.declared.light.Reflection.the-variants.{Diffuse, Specular}
 use Rattle.lighting.specs.declared.pixel.Color.{Color}
 use Rattle.lighting.specs.declared.pixel.Lighting.{Lighting}
-use Rattle.lighting.specs.Surface.{alphaAt, normalAt}
 use Rattle.lighting.specs.Light.{lightVector, rayOf, lightFactor}
 
 -- ---- tests 4 and 5

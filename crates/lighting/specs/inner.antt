@@ -1,4 +1,3 @@
 pub mod Rays
-pub mod Lines
 pub mod Pixels
 pub mod Rows

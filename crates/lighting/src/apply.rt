@@ -3,10 +3,10 @@ use crate::light;
 use crate::light::LightSource;
 use crate::pixel::Lighting;
 use crate::rows;
-use crate::surface::Strip;
 use crate::vector::Vector3;
 use sheet::Answer;
 use sheet::STRIP;
+use surface::Strip;
 ghost use mathlib.Core.Path.{_≡_};
 ghost use Prim.Native.Nat.{_*_, _≤_};
 ghost use lib.ListN.{length};
@@ -14,8 +14,8 @@ ghost use Rattle.sheet.specs.Size.{Sized};
 ghost use Rattle.sheet.specs.Contract.{was, became, Filtered};
 ghost use Rattle.sheet.specs.inner.Strips.{stripLimit};
 ghost use Rattle.sheet.specs.Tabulate.{tabulate};
+ghost use Rattle.surface.specs.inner.Lines.{Placed};
 ghost use Rattle.lighting.specs.Lighting.{litAt, small, answer, lit};
-ghost use Rattle.lighting.specs.inner.Lines.{Placed};
 ghost use Rattle.lighting.specs.inner.Rows.{StripDone};
 
 // A strip's columns, with one more at each side.

@@ -3,7 +3,6 @@ mod apply;
 mod light;
 mod pixel;
 mod rows;
-mod surface;
 mod vector;
 
 pub use light::LightSource;

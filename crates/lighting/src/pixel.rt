@@ -1,11 +1,11 @@
 // One pixel: how strongly it is lit, and its bytes.
 use crate::light::LightSource;
 use crate::light::Reflection;
-use crate::surface::Normal;
 use crate::vector::Vector3;
 use sheet::pixel::Pixel;
 use sheet::pixel::Premultiplied;
 use sheet::pixel::Straight;
+use surface::Normal;
 ghost use mathlib.Core.Path.{_≡_};
 ghost use Prim.Native.Nat.{max};
 ghost use Rattle.lighting.specs.Light as Light;

@@ -6,9 +6,9 @@ use Rattle.floats.specs.Constants.{c0}
 use Rattle.floats.specs.Operators.{_⊗_, _⊘_}
 use Rattle.floats.specs.Order.{nearZero}
 use Rattle.sheet.specs.Pixel.{Channels}
+use Rattle.surface.specs.declared.Normal.{Normal}
 use Rattle.lighting.specs.declared.light.Reflection.{Reflection}
 use Rattle.lighting.specs.declared.light.Reflection.the-variants.{Diffuse, Specular}
-use Rattle.lighting.specs.declared.surface.Normal.{Normal}
 use Rattle.lighting.specs.declared.pixel.Color.{Color}
 use Rattle.lighting.specs.declared.vector.Vector3.{Vector3}
 use Rattle.lighting.specs.Vectors.{dot}

@@ -5,17 +5,17 @@ use mathlib.Core.List.{List}
 use lib.ListN.{length, getD}
 use lib.Ieee.{Float, nan}
 use Rattle.sheet.specs.inner.Strips.{Changed, Worked}
+use Rattle.surface.specs.declared.Strip.{Strip}
+use Rattle.surface.specs.Surface.{alphaAt}
+use Rattle.surface.specs.inner.Lines.{Columns, normalIn, normalOf}
 use Rattle.lighting.specs.declared.light.Reflection.{Reflection}
 use Rattle.lighting.specs.declared.light.Ray.{Ray}
 use Rattle.lighting.specs.declared.pixel.Color.{Color}
 use Rattle.lighting.specs.declared.pixel.Lighting.{Lighting}
-use Rattle.lighting.specs.declared.surface.Strip.{Strip}
 use Rattle.lighting.specs.declared.vector.Vector3.{Vector3}
 use Rattle.lighting.specs.Vectors as Vectors
-use Rattle.lighting.specs.Surface.{alphaAt}
 use Rattle.lighting.specs.Light.{lightVector, toPoint, rayOf, normalVector}
 use Rattle.lighting.specs.Lighting.{litChannel, litAt}
-use Rattle.lighting.specs.inner.Lines.{Columns, normalIn, normalOf}
 use Rattle.lighting.specs.inner.Rays.{fromSurface, unitBy, rayVector, rayBy}
 use Rattle.lighting.specs.inner.Pixels.{alongBy, factorAlong}
 

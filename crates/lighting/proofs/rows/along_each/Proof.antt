@@ -5,10 +5,10 @@ use mathlib.Core.Path.{_≡_}
 use native.Mathlib.Omega.{arith}
 use lib.ListN.{getD}
 use lib.Ieee.{nan}
-use Rattle.lighting.specs.inner.Lines.{normalIn}
+use Rattle.surface.specs.inner.Lines.{normalIn}
 use Rattle.lighting.specs.inner.Pixels.{alongBy}
 use Rattle.lighting.specs.inner.Rows.{Filled, vectorTo}
-use Rattle.lighting.proofs.Leans.{alpha-along, along-inside}
+use Rattle.lighting.proofs.StripRows.{alpha-along, along-inside}
 use Rattle.lighting.proofs.Passes.{filled-none, filled-more}
 use Rattle.lighting.proofs.rows.along_each.Statement.{statement}
 use Rattle.lighting.proofs.rows.along_each.Tie as tie

@@ -5,7 +5,7 @@ use mathlib.Core.Path.{_≡_}
 use native.Mathlib.Omega.{arith}
 use lib.ListN.{getD}
 use lib.Ieee.{nan}
-use Rattle.lighting.specs.inner.Lines.{normalIn}
+use Rattle.surface.specs.inner.Lines.{normalIn}
 use Rattle.lighting.specs.inner.Pixels.{alongBy}
 use Rattle.lighting.specs.inner.Rows.{Filled}
 use Rattle.lighting.proofs.Passes.{filled-none, filled-more}

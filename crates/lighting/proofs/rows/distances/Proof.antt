@@ -6,7 +6,7 @@ use native.Mathlib.Omega.{arith}
 use lib.Ieee.{nan}
 use Rattle.lighting.specs.inner.Rays.{square}
 use Rattle.lighting.specs.inner.Rows.{Filled, fromRow}
-use Rattle.lighting.proofs.Leans.{alpha-along, along-inside}
+use Rattle.lighting.proofs.StripRows.{alpha-along, along-inside}
 use Rattle.lighting.proofs.Passes.{filled-none, filled-more}
 use Rattle.lighting.proofs.rows.distances.Statement.{statement}
 use Rattle.lighting.proofs.rows.distances.Tie as tie

@@ -7,7 +7,7 @@ use lib.Ieee.{nan}
 use Rattle.lighting.specs.declared.light.Reflection.the-variants.{Specular}
 use Rattle.lighting.specs.inner.Rays.{square}
 use Rattle.lighting.specs.inner.Rows.{Filled, pointVector}
-use Rattle.lighting.proofs.Leans.{alpha-along, along-inside}
+use Rattle.lighting.proofs.StripRows.{alpha-along, along-inside}
 use Rattle.lighting.proofs.Passes.{filled-none, filled-more}
 use Rattle.lighting.proofs.rows.halves.Statement.{statement}
 use Rattle.lighting.proofs.rows.halves.Tie as tie

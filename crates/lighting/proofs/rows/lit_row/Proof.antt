@@ -8,7 +8,7 @@ use lib.Ieee.{nan}
 use Rattle.sheet.specs.inner.Strips.{Changed}
 use Rattle.sheet.proofs.Strips.{changed-none, pixel-stored}
 use Rattle.lighting.specs.inner.Rows.{rowBy, startOf}
-use Rattle.lighting.proofs.Leans.{along-inside}
+use Rattle.lighting.proofs.StripRows.{along-inside}
 use Rattle.lighting.proofs.LitRows.{row-pixel}
 use Rattle.lighting.proofs.rows.lit_row.Statement.{statement}
 use Rattle.lighting.proofs.rows.lit_row.Tie as tie

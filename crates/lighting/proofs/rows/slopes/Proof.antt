@@ -1,7 +1,7 @@
 -- The roots of the products are the lengths.
 use borrow.Author.Needs.{needs}
 use mathlib.Core.Path.{ap, _∙_}
-use Rattle.lighting.specs.declared.surface.Normal.{Normal}
+use Rattle.surface.specs.declared.Normal.{Normal}
 use Rattle.lighting.specs.Vectors as Vectors
 use Rattle.lighting.specs.Light.{normalVector}
 use Rattle.lighting.proofs.Passes.{filled-length}

@@ -4,8 +4,8 @@ use Prim.Native.Nat.{_-_, _≤_}
 use mathlib.Core.Path.{_≡_}
 use native.Mathlib.Omega.{arith}
 use lib.Ieee.{nan}
+use Rattle.surface.specs.inner.Lines.{normalIn}
 use Rattle.lighting.specs.Light.{normalVector}
-use Rattle.lighting.specs.inner.Lines.{normalIn}
 use Rattle.lighting.specs.inner.Rays.{square}
 use Rattle.lighting.specs.inner.Rows.{Filled}
 use Rattle.lighting.proofs.Passes.{filled-none, filled-more}

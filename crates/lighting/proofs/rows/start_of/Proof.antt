@@ -1,7 +1,7 @@
 -- A row of a strip lies in its sheet.
 use borrow.Author.Needs.{needs}
 use Rattle.sheet.proofs.Places.{rows}
-use Rattle.lighting.proofs.Leans.{line-inside}
+use Rattle.surface.proofs.Leans.{line-inside}
 use Rattle.lighting.proofs.rows.start_of.Statement.{statement}
 use Rattle.lighting.proofs.rows.start_of.Tie as tie
 
