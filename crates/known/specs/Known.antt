@@ -27,11 +27,11 @@ use Rattle.convolve_matrix.specs.Edges.{isRead, place}
 use Rattle.convolve_matrix.specs.ConvolveMatrix.{inOrder, rowSum, sumAt, newAlpha, colourValue, boundedColour, toByte, convolvedBy}
 use Rattle.turbulence.specs.Random.{next, startOf}
 use Rattle.turbulence.specs.Noise.{wrapped}
+use Rattle.surface.specs.Surface.{weighted, lean, atEdge, leanFactor, normalAt}
 use Rattle.lighting.specs.declared.light.LightSource.the-variants.{Distant}
 use Rattle.lighting.specs.declared.pixel.Color.{Color}
 use Rattle.lighting.specs.declared.pixel.Lighting.{Lighting}
 use Rattle.lighting.specs.Vectors.{dot, length}
-use Rattle.lighting.specs.Surface.{weighted, lean, atEdge, leanFactor, normalAt}
 use Rattle.lighting.specs.Light.{halfRay, flat, along}
 use Rattle.lighting.specs.Lighting.{litColour, factorAt, small, lit, diffuse, specular}
 
