@@ -44,7 +44,7 @@
 /* The version of this header. nup_version gives that of the archive, which is
    to be the same; CHANGELOG.md says what the three numbers promise. */
 #define NUP_VERSION_MAJOR 0
-#define NUP_VERSION_MINOR 2
+#define NUP_VERSION_MINOR 3
 #define NUP_VERSION_PATCH 0
 #define NUP_VERSION                                                          \
     (NUP_VERSION_MAJOR * 1000000 + NUP_VERSION_MINOR * 1000 +                \

@@ -1,7 +1,8 @@
-// The lines that a lent copy changes: file, then each line as the Rust has it and as the copy has it.
+// The lines that a lent copy changes: file, then each line as the Rust has it and as the copy has it. That of turbulence is lent
+// nothing: it tells each state that it draws the next one from, and an attribute of a file goes.
 // build.rs makes the copies from this list and tests/copies.rs shows that they differ in nothing else.
 
-pub const LENT: [(&str, &[(&str, &str)]); 2] = [
+pub const LENT: [(&str, &[(&str, &str)]); 3] = [
     (
         "color_matrix",
         &[
@@ -15,6 +16,16 @@ pub const LENT: [(&str, &[(&str, &str)]); 2] = [
             ("azimuth.cos() * elevation.cos(),", "super::lent::x(),"),
             ("azimuth.sin() * elevation.cos(),", "super::lent::y(),"),
             ("elevation.sin(),", "super::lent::z(),"),
+        ],
+    ),
+    (
+        "turbulence",
+        &[
+            ("#![allow(clippy::needless_range_loop)]", ""),
+            (
+                "fn random(seed: i32) -> i32 {",
+                "fn random(seed: i32) -> i32 { super::lent::tell_state(seed);",
+            ),
         ],
     ),
 ];

@@ -12,6 +12,7 @@ pub mod floats;
 pub mod header;
 pub mod leaves;
 pub mod lend;
+pub mod lowest_seed;
 pub mod message;
 pub mod nasty;
 pub mod ours;

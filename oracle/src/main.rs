@@ -6,7 +6,9 @@ use std::{env, fs};
 
 use oracle::compare::Wanted;
 use oracle::primitives::ALL;
-use oracle::{bench, compare, dirty, floats, patterns, places, recipe, stored, unproved};
+use oracle::{
+    bench, compare, dirty, floats, lowest_seed, patterns, places, recipe, stored, unproved,
+};
 
 const HELP: &str = "\
 usage: oracle COMMAND
@@ -20,6 +22,7 @@ usage: oracle COMMAND
                                   of an f64 over every boundary and drawn ones, 100,663,296 each; or
                                   over one block of 2^20 in N (N up to 4,096)
   places [--calls N]              call displacement_map.rs N times (10,000,000): no pixel comes from beyond its reach
+  lowest-seed                     where turbulence.rs starts at the seed -2147483648, which compare leaves out
   bench [--slow]                  measure the library beside the Rust, as a Markdown table;
                                   --slow: morphology at radius 40 too
   dirty WIDTH HEIGHT SOURCE OLD RUST LIBRARY
@@ -51,6 +54,7 @@ fn main() -> ExitCode {
             Ok(calls) => status(places::run(calls, compare::SEED)),
             Err(_) => wrong(),
         },
+        ["lowest-seed"] => status(lowest_seed::run()),
         ["bench"] => bench::run(false),
         ["bench", "--slow"] => bench::run(true),
         ["dirty", width, height, ref files @ ..] => compose(width, height, files),

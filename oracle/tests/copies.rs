@@ -93,6 +93,7 @@ fn lent_copies_differ_in_the_lent_lines_alone() {
     let made = [
         include_str!(concat!(env!("OUT_DIR"), "/color_matrix_lent.rs")),
         include_str!(concat!(env!("OUT_DIR"), "/lighting_lent.rs")),
+        include_str!(concat!(env!("OUT_DIR"), "/turbulence_lent.rs")),
     ];
     for ((file, lines), copy) in LENT.iter().zip(made) {
         let rust = fs::read_to_string(package(&format!("resvg/filter/{file}.rs"))).unwrap();

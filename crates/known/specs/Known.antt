@@ -25,7 +25,7 @@ use Rattle.convolve_matrix.specs.declared.edge.EdgeMode.the-variants.{None, Dup
 use Rattle.convolve_matrix.specs.declared.ConvolveMatrix.{ConvolveMatrix}
 use Rattle.convolve_matrix.specs.Edges.{isRead, place}
 use Rattle.convolve_matrix.specs.ConvolveMatrix.{inOrder, rowSum, sumAt, newAlpha, colourValue, boundedColour, toByte, convolvedBy}
-use Rattle.turbulence.specs.Random.{next, startOf}
+use Rattle.turbulence.specs.Random.{next, positive, startOf}
 use Rattle.turbulence.specs.Noise.{wrapped}
 use Rattle.surface.specs.Surface.{weighted, lean, atEdge, leanFactor, normalAt}
 use Rattle.lighting.specs.declared.light.LightSource.the-variants.{Distant}
@@ -87,7 +87,7 @@ swept mode divisor kernel n l = convolvedBy (inRow mode divisor) kernel n 1 (alp
 
 -- the state at which a seed starts
 unfoldable pub start : ℤ → List ℕ
-unfolding startOf
+unfolding startOf positive
 start seed = startOf seed ∷ []
 
 -- the two states after a state
@@ -134,6 +134,7 @@ table =
     ∷ (start (negsuc 4), 6 ∷ [])  -- seed -5
     ∷ (start (negsuc 2147483645), 1 ∷ [])  -- seed -2147483646
     ∷ (start (negsuc 2147483646), 2 ∷ [])  -- seed -2147483647
+    ∷ (start (negsuc 2147483647), 3 ∷ [])  -- seed -2147483648
     ∷ (start (pos 2147483647), 2147483646 ∷ [])
     ∷ (states 1, 16807 ∷ 282475249 ∷ [])
     ∷ (stateAfter 10000 1 ∷ [], 1043618065 ∷ [])

@@ -4,7 +4,7 @@ ghost use mathlib.Core.Path.{_≡_};
 // The header's NUP_VERSION: major * 1,000,000 + minor * 1,000 + patch.
 #[no_mangle]
 pub extern "C" fn nup_version() -> u32
-    ensures { λ version. ⌜ version ≡ 2000 ⌝ }
+    ensures { λ version. ⌜ version ≡ 3000 ⌝ }
 {
-    2000
+    3000
 }

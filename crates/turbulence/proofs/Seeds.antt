@@ -1,36 +1,70 @@
--- A seed's size and its start, by the sign of the seed.
-use Prim.Native.Nat.{ℕ, zero, suc, _+_, _%_, _<_, min}
-use mathlib.Core.Path.{_≡_, refl, sym}
+-- A seed of 0 or less, its remainder by any divisor negated and 1 added: each number on the way is an i32.
+use Prim.Native.Nat.{ℕ, zero, suc, _+_, _/_, _%_, _≤_, _<_}
+use mathlib.Core.Path.{_≡_, refl, ap, _∙_}
 use mathlib.Core.Bool.{true, false}
-use native.Mathlib.Nat.{min-eq-left, min-eq-right}
+use native.Mathlib.Nat.{lt-of-le-of-lt, le-trans, div-le-self, mod-lt, zero-mod}
 use native.Mathlib.Omega.{arith}
-use borrow.Author.Tests.{ltb-false}
-use lib.IntN.{ℤ, pos, negsuc, negℤ, natAbs}
-use lib.Signed.{ltZ, nonNeg}
-use lib.Dec.{T}
+use borrow.Author.Tests.{leb-true}
+use lib.Dec.{leb·suc-zero}
+use lib.IntN.{ℤ, pos, negsuc, negℤ, negℤ-negℤ, natAbs, +ℤ-idl, _+ℤ_, _-ℤ_}
+use lib.Signed.{leZ, quotZ, remZ, mag-rem}
 use mir.Syntax.{w32}
-use mir.Val.{SFits, Fits, ofZ}
-use Rattle.turbulence.specs.Random.{startOf}
+use mir.Val.{SFits, toZ, ofZ}
+use mir.ValLaws.{toZ-ofZ}
+use Rattle.turbulence.specs.Random.{positive, lastState}
 
--- a seed over 0 is its size
-pub over-zero : (z : ℤ) → SFits w32 z → ltZ (pos 0) z ≡ true → T (nonNeg z) × Fits w32 (natAbs z) × (startOf z ≡ min (natAbs z) 2147483646) × (0 < natAbs z)
-unfolding startOf
-over-zero (pos zero) f h = let z : _≡_ {A = ℕ} 0 1 = cc in omega arith
-over-zero (pos (suc n)) f h = let b = f .sfits in (tt, record { fits = omega arith }, refl, omega arith)
-over-zero (negsuc n) f h = let z : _≡_ {A = ℕ} 0 1 = cc in omega arith
+negated-fits : (n : ℕ) → n ≤ 2147483648 → SFits w32 (negℤ (pos n))
+negated-fits zero h = record { sfits = omega arith }
+negated-fits (suc n) h = record { sfits = omega arith }
 
--- of 0 or less, and not the lowest, it is negated to its size
-pub under-zero : (z : ℤ) → SFits w32 z → ltZ (pos 0) z ≡ false → (ofZ w32 z ≡ 2147483648 → ⊥) → SFits w32 (negℤ z) × T (nonNeg (negℤ z)) × Fits w32 (natAbs (negℤ z)) × (natAbs (negℤ z) ≡ min (natAbs z) 2147483647)
-under-zero (pos zero) f h g = (f, tt, record { fits = omega arith }, refl)
-under-zero (pos (suc n)) f h g = let z = ltb-false 0 (suc n) h in omega arith
-under-zero (negsuc n) f h g = let b = f .sfits in (record { sfits = omega arith }, tt, record { fits = omega arith }, sym (min-eq-left (omega arith)))
+pub quotient-fits : (z : ℤ) (d : ℕ) → SFits w32 z → SFits w32 (quotZ z (pos d))
+quotient-fits (pos n) d f = record { sfits = lt-of-le-of-lt (div-le-self n d) (f .sfits) }
+quotient-fits (negsuc n) d f = negated-fits (suc n / d) (le-trans (div-le-self (suc n) d) (f .sfits))
 
-pub lowest : (z : ℤ) → SFits w32 z → ofZ w32 z ≡ 2147483648 → 2147483647 ≡ min (natAbs z) 2147483647
-lowest (pos n) f e = let b = f .sfits in omega arith
-lowest (negsuc n) f e = sym (min-eq-right (omega arith))
+negated-remainder : (z : ℤ) (d : ℕ) → leZ z (pos 0) ≡ true → negℤ (remZ z (pos d)) ≡ pos (natAbs z % d)
+negated-remainder (pos zero) d h = rw (zero-mod d) refl
+negated-remainder (pos (suc n)) d h = let no : ⊥ = let z = leb-true (suc n) 0 h in omega arith in absurd no
+negated-remainder (negsuc n) d h = negℤ-negℤ (pos (suc n % d))
 
-pub start-under : (z : ℤ) → ltZ (pos 0) z ≡ false → startOf z ≡ min (natAbs z) 2147483647 % 2147483646 + 1
-unfolding startOf
-start-under (pos zero) h = refl
-start-under (pos (suc n)) h = let z = ltb-false 0 (suc n) h in omega arith
-start-under (negsuc n) h = refl
+module _ (z : ℤ) (f : SFits w32 z) (h : leZ z (pos 0) ≡ true) (d : ℕ) (some : 0 < d) (few : d < 2147483648) where
+  negated : pos 0 -ℤ toZ w32 (ofZ w32 (remZ z (pos d))) ≡ pos (natAbs z % d)
+  negated =
+      ap (λ r. pos 0 -ℤ r) (toZ-ofZ w32 (remZ z (pos d)) (record { sfits = lt-of-le-of-lt (mag-rem z (pos d)) (f .sfits) }))
+      ∙ +ℤ-idl (negℤ (remZ z (pos d)))
+      ∙ negated-remainder z d h
+
+  left : natAbs z % d < d
+  left = mod-lt (natAbs z) some
+
+  pub remainder-negated : SFits w32 (pos 0 -ℤ toZ w32 (ofZ w32 (remZ z (pos d))))
+  remainder-negated = rw negated (let l = left in record { sfits = omega arith })
+
+  next : toZ w32 (ofZ w32 (pos 0 -ℤ toZ w32 (ofZ w32 (remZ z (pos d))))) +ℤ pos 1 ≡ pos (natAbs z % d + 1)
+  next = ap (λ r. r +ℤ pos 1) (toZ-ofZ w32 (pos 0 -ℤ toZ w32 (ofZ w32 (remZ z (pos d)))) remainder-negated ∙ negated)
+
+  pub next-fits : SFits w32 (toZ w32 (ofZ w32 (pos 0 -ℤ toZ w32 (ofZ w32 (remZ z (pos d))))) +ℤ pos 1)
+  next-fits = rw next (let l = left in record { sfits = omega arith })
+
+  pub next-is : toZ w32 (ofZ w32 (toZ w32 (ofZ w32 (pos 0 -ℤ toZ w32 (ofZ w32 (remZ z (pos d))))) +ℤ pos 1)) ≡ pos (natAbs z % d + 1)
+  next-is = toZ-ofZ w32 (toZ w32 (ofZ w32 (pos 0 -ℤ toZ w32 (ofZ w32 (remZ z (pos d))))) +ℤ pos 1) next-fits ∙ next
+
+-- where a seed of 0 or less is taken, and one above 0
+pub positive-low : (z : ℤ) → leZ z (pos 0) ≡ true → positive z ≡ pos (natAbs z % lastState + 1)
+unfolding positive
+positive-low z h = rw (h, negated-remainder z lastState h) refl
+
+pub positive-high : (z : ℤ) → leZ z (pos 0) ≡ false → positive z ≡ z
+unfolding positive
+positive-high z h = rw h refl
+
+-- either way a positive number, within an i32
+pub record Positive (z : ℤ) : Type 0 where
+  pub size : ℕ
+  pub low : 0 < size
+  pub high : size < 2147483648
+  pub is : positive z ≡ pos size
+
+pub above-zero : (z : ℤ) → SFits w32 z → Positive z
+above-zero (pos zero) f = record { size = 1; low = omega arith; high = omega arith; is = positive-low (pos zero) refl }
+above-zero (pos (suc n)) f = record { size = suc n; low = omega arith; high = f .sfits; is = positive-high (pos (suc n)) (leb·suc-zero n) }
+above-zero (negsuc n) f = record { size = suc n % lastState + 1; low = omega arith; high = omega arith; is = positive-low (negsuc n) refl }

@@ -1,6 +1,8 @@
 -- The Filter Effects Module's generator: a state, its next one, and the state at which a seed starts.
-use Prim.Native.Nat.{ℕ, zero, suc, _+_, _*_, _%_, _≤_, min}
-use lib.IntN.{ℤ, pos, negsuc}
+use Prim.Native.Nat.{ℕ, _*_, _%_, _≤_, min}
+use mathlib.Core.Bool.{cond}
+use lib.IntN.{ℤ, pos, negℤ, natAbs, _+ℤ_}
+use lib.Signed.{leZ, remZ}
 
 -- the modulus 2 ^ 31 - 1 less one
 abbrev pub lastState : ℕ
@@ -13,8 +15,10 @@ pub record State (s : ℕ) : Type 0 where
 unfoldable pub next : ℕ → ℕ
 next s = 16807 * s % 2147483647
 
--- a seed s of 0 or less starts at (-s modulo 2147483646) + 1, the lowest with the size 2147483647
+-- the Module takes a seed of 0 or less to -(seed % lastState) + 1, by C's remainder, which has the sign of the seed
+unfoldable pub positive : ℤ → ℤ
+positive seed = cond (leZ seed (pos 0)) (negℤ (remZ seed (pos lastState)) +ℤ pos 1) seed
+
+-- and what is over lastState to lastState
 unfoldable pub startOf : ℤ → ℕ
-startOf (pos zero) = 1
-startOf (pos (suc n)) = min (suc n) lastState
-startOf (negsuc n) = min (suc n) 2147483647 % lastState + 1
+startOf seed = min (natAbs (positive seed)) lastState

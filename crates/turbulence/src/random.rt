@@ -14,20 +14,14 @@ pub fn random(state: u32) -> u32
 pub fn start(seed: i32) -> u32
     ensures { λ r. ⌜ (r ≡ startOf seed) × State r ⌝ }
 {
-    if seed > 0 {
-        let positive = seed as u32;
-        if positive > 2147483646 {
-            2147483646
-        } else {
-            positive
-        }
+    let positive = if seed <= 0 {
+        -(seed % 2147483646) + 1
     } else {
-        // The lowest seed has no negative: it counts as the next one.
-        let size = if seed == -2147483648 {
-            2147483647
-        } else {
-            (-seed) as u32
-        };
-        size % 2147483646 + 1
+        seed
+    };
+    if positive > 2147483646 {
+        2147483646
+    } else {
+        positive as u32
     }
 }

@@ -1,10 +1,12 @@
-//! The values that the changed lines of the lent copies read: set by the caller just before a call.
+//! The values that the changed lines of the lent copies read: set by the caller just before a call. And the states that
+//! turbulence tells.
 
-use std::cell::Cell;
+use std::cell::{Cell, RefCell};
 
 thread_local! {
     static PAIR: Cell<(f32, f32)> = const { Cell::new((1.0, 0.0)) };
     static DIRECTION: Cell<(f32, f32, f32)> = const { Cell::new((0.0, 0.0, 1.0)) };
+    static STATES: RefCell<Vec<i32>> = const { RefCell::new(vec![]) };
 }
 
 /// Lends HueRotate's cosine and sine to the next calls on this thread.
@@ -35,4 +37,13 @@ pub fn y() -> f32 {
 
 pub fn z() -> f32 {
     DIRECTION.get().2
+}
+
+pub fn tell_state(state: i32) {
+    STATES.with_borrow_mut(|states| states.push(state));
+}
+
+/// The states that were told on this thread since they were last taken.
+pub fn take_states() -> Vec<i32> {
+    STATES.take()
 }

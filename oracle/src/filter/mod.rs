@@ -1,5 +1,5 @@
-//! resvg 0.49.0's filter folder: nine files unchanged, two of them once more with a value lent,
-//! and the items of its mod.rs that they use.
+//! resvg 0.49.0's filter folder: nine files unchanged, two of them once more with a value lent and one that tells its
+//! states, and the items of its mod.rs that they use.
 
 #![allow(dead_code, clippy::collapsible_if)]
 
@@ -37,6 +37,12 @@ pub mod color_matrix_lent {
 #[allow(unused_variables)]
 pub mod lighting_lent {
     include!(concat!(env!("OUT_DIR"), "/lighting_lent.rs"));
+}
+
+/// turbulence.rs, which tells each state that it draws the next one from; build.rs makes it.
+#[allow(clippy::needless_range_loop, clippy::too_many_arguments)]
+pub mod turbulence_lent {
+    include!(concat!(env!("OUT_DIR"), "/turbulence_lent.rs"));
 }
 
 // The items below are mod.rs's, word for word.

@@ -3,7 +3,7 @@
 
 use super::damage::damaged;
 use super::write::words;
-use super::{Call, Expected, expected, expected_of, message};
+use super::{Call, Expected, expected, expected_of, message, read};
 use crate::nasty;
 use crate::recipe::{self, Function, Kind, Recipe, STEPS, Step, Work, spoil_float};
 use crate::rng::Rng;
@@ -31,8 +31,17 @@ pub fn draw_spoiled(rng: &mut Rng) -> Drawn {
     of_recipe(recipe)
 }
 
-/// A message that is damaged; its reader says what is expected.
+/// A message that is damaged; its reader says what is expected. Where damage made the lowest seed, another is drawn.
 pub fn draw_damaged(rng: &mut Rng) -> Drawn {
+    let mut call = damaged_call(rng);
+    while has_lowest_seed(&call.message) {
+        call = damaged_call(rng);
+    }
+    let expected = expected_of(&call);
+    (call, expected)
+}
+
+fn damaged_call(rng: &mut Rng) -> Call {
     let recipe = match rng.one_in(2) {
         true => good(rng),
         false => spoiled(rng),
@@ -42,9 +51,13 @@ pub fn draw_damaged(rng: &mut Rng) -> Drawn {
     } else {
         recipe.kind.number()
     };
-    let call = Call::new(damaged(rng, &words(&recipe)), kind, &recipe);
-    let expected = expected_of(&call);
-    (call, expected)
+    Call::new(damaged(rng, &words(&recipe)), kind, &recipe)
+}
+
+/// Whether a step has the seed at which turbulence.rs overflows.
+fn has_lowest_seed(message: &[u8]) -> bool {
+    let lowest = |step: &Step| matches!(step.work, Work::Turbulence(_, _, i32::MIN, _));
+    read(message).is_ok_and(|(steps, _)| steps.iter().any(lowest))
 }
 
 fn of_recipe(recipe: Recipe) -> Drawn {
@@ -178,7 +191,6 @@ fn full(rng: &mut Rng) -> Recipe {
 
 #[cfg(test)]
 mod tests {
-    use super::super::read;
     use super::*;
     use std::collections::BTreeSet;
 
@@ -230,6 +242,21 @@ mod tests {
         assert_eq!(met(0), [0, 3, 6, 11]);
         assert_eq!(met(1), [0, 1, 2, 3, 4, 5, 6, 7, 8]);
         assert_eq!(met(2)[..10], [0, 1, 2, 3, 4, 5, 6, 7, 8, 10]);
+    }
+
+    /// The lowest seed is known in a message, and its neighbour is none.
+    #[test]
+    fn the_lowest_seed_is_found() {
+        let with = |seed: i32| {
+            let mut recipe = full(&mut Rng::new(6));
+            recipe.steps = vec![Step {
+                work: Work::Turbulence([1.0; 6], 1, seed, 0),
+                inputs: vec![],
+                output: 1,
+            }];
+            has_lowest_seed(&message(&recipe))
+        };
+        assert_eq!([i32::MIN, -i32::MAX].map(with), [true, false]);
     }
 
     /// The message's own refusals come first, then the kind's, then those of a run.

@@ -58,7 +58,7 @@ const NAN_SEEDS: [i32; 13] = [
     -2147483582,
 ];
 
-/// Where a start is, or a range of seeds ends. The lowest i32 is not run: negated it is no i32.
+/// Where a start is, or a range of seeds ends. The lowest i32 is not run, since turbulence.rs overflows there.
 const EDGE_SEEDS: [i32; 9] = [
     0,
     1,

@@ -1,64 +1,72 @@
--- `start` meets its contract: the laws of the seed's sign, at the seed that the machine's bits give back.
-use borrow.Author.Needs.{needs}
-use Prim.Native.Nat.{min}
-use mathlib.Core.Path.{_≡_, sym, _∙_}
+-- `start` meets its contract: each number on the way from a seed to a positive one is an i32.
+use mathlib.Core.Path.{_≡_, sym, ap, _∙_}
 use mathlib.Core.Logic.{⊎-elim}
 use native.Mathlib.Nat.{min-eq-left, min-eq-right}
 use native.Mathlib.Omega.{arith}
-use lib.IntN.{negℤ, natAbs, +ℤ-idl}
+use borrow.Author.Tests.{ltb-true, ltb-false}
+use lib.IntN.{pos}
 use mir.Syntax.{w32}
+use mir.Val.{toZ, ofZ}
 use mir.ValLaws.{toZ-ofZ}
-use Rattle.turbulence.proofs.Seeds.{over-zero, under-zero, lowest, start-under}
+use Rattle.turbulence.specs.Random.{positive, startOf}
+use Rattle.turbulence.proofs.Seeds.{quotient-fits, remainder-negated, next-fits, next-is, positive-low, positive-high, Positive, above-zero}
 use Rattle.turbulence.proofs.random.start.Statement.{statement}
 use Rattle.turbulence.proofs.random.start.Tie as tie
 
-cast-positive : tie.Need-cast-positive
-cast-positive c =
-    let e = toZ-ofZ w32 (c .before .args .seed) (c .before .fits .seed) in
-    let o = over-zero (c .before .args .seed) (c .before .fits .seed) (rw e at (c .if1 .taken)) in
-    rw e (o .0, o .1)
+seed-back : (c : tie.Start) → toZ w32 (ofZ w32 (c .args .seed)) ≡ c .args .seed
+seed-back c = toZ-ofZ w32 (c .args .seed) (c .fits .seed)
 
-sub-size : tie.Need-sub-size
-sub-size c =
-    let e = toZ-ofZ w32 (c .before .before .args .seed) (c .before .before .fits .seed) in
-    let u = under-zero (c .before .before .args .seed) (c .before .before .fits .seed) (rw e at (c .before .if1 .left)) (c .if3 .left) in
-    rw (e, +ℤ-idl) (u .0)
+rem-positive : tie.Need-rem-positive
+rem-positive c = rw (seed-back (c .before)) (omega arith, quotient-fits (c .before .args .seed) _ (c .before .fits .seed))
 
-cast-size : tie.Need-cast-size
-cast-size c =
-    let e = toZ-ofZ w32 (c .before .before .args .seed) (c .before .before .fits .seed) in
-    let u = under-zero (c .before .before .args .seed) (c .before .before .fits .seed) (rw e at (c .before .if1 .left)) (c .if3 .left) in
-    rw (e, +ℤ-idl, toZ-ofZ w32 (negℤ (c .before .before .args .seed)) (u .0)) (u .1, u .2)
+sub-positive : tie.Need-sub-positive
+sub-positive c =
+    let h = rw (seed-back (c .before)) at (c .if1 .taken) in
+    rw (seed-back (c .before)) (remainder-negated (c .before .args .seed) (c .before .fits .seed) h _ (omega arith) (omega arith))
 
-add-result : tie.Need-add-result
-add-result c = search needs
+add-positive : tie.Need-add-positive
+add-positive c =
+    let h = rw (seed-back (c .before)) at (c .if1 .taken) in
+    rw (seed-back (c .before)) (next-fits (c .before .args .seed) (c .before .fits .seed) h _ (omega arith) (omega arith))
+
+value : (c : tie.Joined1) → toZ w32 (c .if1 .positive) ≡ positive (c .before .args .seed)
+value c =
+    ⊎-elim
+    (λ w.
+    let h = rw (seed-back (c .before)) at (w .0 .taken) in
+    ap (toZ w32) (w .1)
+    ∙ rw (seed-back (c .before)) (next-is (c .before .args .seed) (c .before .fits .seed) h _ (omega arith) (omega arith) ∙ sym (positive-low (c .before .args .seed) h)))
+    (λ w.
+    let h = rw (seed-back (c .before)) at (w .0 .left) in
+    ap (toZ w32) (w .1) ∙ seed-back (c .before) ∙ sym (positive-high (c .before .args .seed) h))
+    (c .if1 .came)
+
+above : (c : tie.Joined1) → Positive (c .before .args .seed)
+above c = above-zero (c .before .args .seed) (c .before .fits .seed)
+
+value-is : (c : tie.Joined1) → toZ w32 (c .if1 .positive) ≡ pos (above c .size)
+value-is c = value c ∙ above c .is
+
+cast-result : tie.Need-cast-result
+cast-result c =
+    let h = above (c .before) .high in
+    rw (value-is (c .before)) (tt, record { fits = omega arith })
 
 returns : tie.Need-returns
+unfolding startOf
 returns c =
-    let e = toZ-ofZ w32 (c .before .before .args .seed) (c .before .before .fits .seed) in
-    let o = over-zero (c .before .before .args .seed) (c .before .before .fits .seed) (rw e at (c .before .if1 .taken)) in
-    let h = rw e at (c .if2 .taken) in
-    (sym (o .2 ∙ min-eq-right (omega arith)), record { low = omega arith; high = omega arith })
+    let p = above (c .before) in
+    let h = ltb-true _ (p .size) (rw (value-is (c .before)) at (c .if2 .taken)) in
+    (rw (p .is) (sym (min-eq-right (omega arith))), record { low = omega arith; high = omega arith })
 
 returns-2 : tie.Need-returns-2
+unfolding startOf
 returns-2 c =
-    let e = toZ-ofZ w32 (c .before .before .args .seed) (c .before .before .fits .seed) in
-    let o = over-zero (c .before .before .args .seed) (c .before .before .fits .seed) (rw e at (c .before .if1 .taken)) in
-    let h = rw e at (c .if2 .left) in
-    rw e (sym (o .2 ∙ min-eq-left (omega arith)), record { low = omega arith; high = omega arith })
-
-returns-3 : tie.Need-returns-3
-returns-3 c =
-    let e = toZ-ofZ w32 (c .before .before .before .args .seed) (c .before .before .before .fits .seed) in
-    let h = rw e at (c .before .before .if1 .left) in
-    let z : c .before .if3 .size ≡ min (natAbs (c .before .before .before .args .seed)) 2147483647 = (⊎-elim
-    (λ w. w .1 ∙ lowest (c .before .before .before .args .seed) (c .before .before .before .fits .seed) (w .0 .taken))
-    (λ w.
-    let u = under-zero (c .before .before .before .args .seed) (c .before .before .before .fits .seed) h (w .0 .left) in
-    w .1 ∙ rw (e, +ℤ-idl, toZ-ofZ w32 (negℤ (c .before .before .before .args .seed)) (u .0)) (u .3))
-    (c .before .if3 .came)) in
-    (rw z (sym (start-under (c .before .before .before .args .seed) h)), record { low = omega arith; high = omega arith })
+    let p = above (c .before) in
+    let h = ltb-false _ (p .size) (rw (value-is (c .before)) at (c .if2 .left)) in
+    let l = p .low in
+    rw (value-is (c .before), p .is) (sym (min-eq-left (omega arith)), record { low = omega arith; high = omega arith })
 
 pub start-spec : {M : Type 1} → statement M
 start-spec =
-    tie.close (tie.spec cast-positive sub-size cast-size add-result returns returns-2 returns-3)
+    tie.close (tie.spec rem-positive sub-positive add-positive cast-result returns returns-2)
