@@ -1,5 +1,5 @@
 // The lines that a lent copy changes: file, then each line as the Rust has it and as the copy has it. That of turbulence is lent
-// nothing: it tells each state that it draws the next one from, and an attribute of a file goes.
+// nothing: it tells each state that it draws the next one from; and it lacks an attribute that an included text cannot have.
 // build.rs makes the copies from this list and tests/copies.rs shows that they differ in nothing else.
 
 pub const LENT: [(&str, &[(&str, &str)]); 3] = [

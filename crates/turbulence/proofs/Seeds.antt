@@ -26,27 +26,34 @@ negated-remainder (pos zero) d h = rw (zero-mod d) refl
 negated-remainder (pos (suc n)) d h = let no : ⊥ = let z = leb-true (suc n) 0 h in omega arith in absurd no
 negated-remainder (negsuc n) d h = negℤ-negℤ (pos (suc n % d))
 
+-- the machine's numbers on the way: the remainder negated, and 1 more
+abbrev turned : ℤ → ℕ → ℤ
+turned z d = pos 0 -ℤ toZ w32 (ofZ w32 (remZ z (pos d)))
+
+abbrev raised : ℤ → ℕ → ℤ
+raised z d = toZ w32 (ofZ w32 (turned z d)) +ℤ pos 1
+
 module _ (z : ℤ) (f : SFits w32 z) (h : leZ z (pos 0) ≡ true) (d : ℕ) (some : 0 < d) (few : d < 2147483648) where
-  negated : pos 0 -ℤ toZ w32 (ofZ w32 (remZ z (pos d))) ≡ pos (natAbs z % d)
-  negated =
+  left : natAbs z % d < d
+  left = mod-lt (natAbs z) some
+
+  turned-is : turned z d ≡ pos (natAbs z % d)
+  turned-is =
       ap (λ r. pos 0 -ℤ r) (toZ-ofZ w32 (remZ z (pos d)) (record { sfits = lt-of-le-of-lt (mag-rem z (pos d)) (f .sfits) }))
       ∙ +ℤ-idl (negℤ (remZ z (pos d)))
       ∙ negated-remainder z d h
 
-  left : natAbs z % d < d
-  left = mod-lt (natAbs z) some
+  pub turned-fits : SFits w32 (turned z d)
+  turned-fits = rw turned-is (let l = left in record { sfits = omega arith })
 
-  pub remainder-negated : SFits w32 (pos 0 -ℤ toZ w32 (ofZ w32 (remZ z (pos d))))
-  remainder-negated = rw negated (let l = left in record { sfits = omega arith })
+  raised-value : raised z d ≡ pos (natAbs z % d + 1)
+  raised-value = ap (λ r. r +ℤ pos 1) (toZ-ofZ w32 (turned z d) turned-fits ∙ turned-is)
 
-  next : toZ w32 (ofZ w32 (pos 0 -ℤ toZ w32 (ofZ w32 (remZ z (pos d))))) +ℤ pos 1 ≡ pos (natAbs z % d + 1)
-  next = ap (λ r. r +ℤ pos 1) (toZ-ofZ w32 (pos 0 -ℤ toZ w32 (ofZ w32 (remZ z (pos d)))) remainder-negated ∙ negated)
+  pub raised-fits : SFits w32 (raised z d)
+  raised-fits = rw raised-value (let l = left in record { sfits = omega arith })
 
-  pub next-fits : SFits w32 (toZ w32 (ofZ w32 (pos 0 -ℤ toZ w32 (ofZ w32 (remZ z (pos d))))) +ℤ pos 1)
-  next-fits = rw next (let l = left in record { sfits = omega arith })
-
-  pub next-is : toZ w32 (ofZ w32 (toZ w32 (ofZ w32 (pos 0 -ℤ toZ w32 (ofZ w32 (remZ z (pos d))))) +ℤ pos 1)) ≡ pos (natAbs z % d + 1)
-  next-is = toZ-ofZ w32 (toZ w32 (ofZ w32 (pos 0 -ℤ toZ w32 (ofZ w32 (remZ z (pos d))))) +ℤ pos 1) next-fits ∙ next
+  pub raised-is : toZ w32 (ofZ w32 (raised z d)) ≡ pos (natAbs z % d + 1)
+  raised-is = toZ-ofZ w32 (raised z d) raised-fits ∙ raised-value
 
 -- where a seed of 0 or less is taken, and one above 0
 pub positive-low : (z : ℤ) → leZ z (pos 0) ≡ true → positive z ≡ pos (natAbs z % lastState + 1)

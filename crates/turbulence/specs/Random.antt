@@ -19,6 +19,6 @@ next s = 16807 * s % 2147483647
 unfoldable pub positive : ℤ → ℤ
 positive seed = cond (leZ seed (pos 0)) (negℤ (remZ seed (pos lastState)) +ℤ pos 1) seed
 
--- and what is over lastState to lastState
+-- and what is over lastState to lastState; above 0 a number is its own natAbs
 unfoldable pub startOf : ℤ → ℕ
 startOf seed = min (natAbs (positive seed)) lastState

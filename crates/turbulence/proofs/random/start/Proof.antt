@@ -9,7 +9,7 @@ use mir.Syntax.{w32}
 use mir.Val.{toZ, ofZ}
 use mir.ValLaws.{toZ-ofZ}
 use Rattle.turbulence.specs.Random.{positive, startOf}
-use Rattle.turbulence.proofs.Seeds.{quotient-fits, remainder-negated, next-fits, next-is, positive-low, positive-high, Positive, above-zero}
+use Rattle.turbulence.proofs.Seeds.{quotient-fits, turned-fits, raised-fits, raised-is, positive-low, positive-high, Positive, above-zero}
 use Rattle.turbulence.proofs.random.start.Statement.{statement}
 use Rattle.turbulence.proofs.random.start.Tie as tie
 
@@ -22,12 +22,12 @@ rem-positive c = rw (seed-back (c .before)) (omega arith, quotient-fits (c .befo
 sub-positive : tie.Need-sub-positive
 sub-positive c =
     let h = rw (seed-back (c .before)) at (c .if1 .taken) in
-    rw (seed-back (c .before)) (remainder-negated (c .before .args .seed) (c .before .fits .seed) h _ (omega arith) (omega arith))
+    rw (seed-back (c .before)) (turned-fits (c .before .args .seed) (c .before .fits .seed) h _ (omega arith) (omega arith))
 
 add-positive : tie.Need-add-positive
 add-positive c =
     let h = rw (seed-back (c .before)) at (c .if1 .taken) in
-    rw (seed-back (c .before)) (next-fits (c .before .args .seed) (c .before .fits .seed) h _ (omega arith) (omega arith))
+    rw (seed-back (c .before)) (raised-fits (c .before .args .seed) (c .before .fits .seed) h _ (omega arith) (omega arith))
 
 value : (c : tie.Joined1) → toZ w32 (c .if1 .positive) ≡ positive (c .before .args .seed)
 value c =
@@ -35,7 +35,7 @@ value c =
     (λ w.
     let h = rw (seed-back (c .before)) at (w .0 .taken) in
     ap (toZ w32) (w .1)
-    ∙ rw (seed-back (c .before)) (next-is (c .before .args .seed) (c .before .fits .seed) h _ (omega arith) (omega arith) ∙ sym (positive-low (c .before .args .seed) h)))
+    ∙ rw (seed-back (c .before)) (raised-is (c .before .args .seed) (c .before .fits .seed) h _ (omega arith) (omega arith) ∙ sym (positive-low (c .before .args .seed) h)))
     (λ w.
     let h = rw (seed-back (c .before)) at (w .0 .left) in
     ap (toZ w32) (w .1) ∙ seed-back (c .before) ∙ sym (positive-high (c .before .args .seed) h))
