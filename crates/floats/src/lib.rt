@@ -1,5 +1,7 @@
 // What Rust does with an `f32` or an `f64` and Rattle lacks, and the exact tests of parameters, worked out from the bits.
 // Every function takes every float, infinities and NaN included.
+#![tactic(auto)]
+
 mod blocks;
 mod byte;
 mod certain;

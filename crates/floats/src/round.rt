@@ -3,6 +3,7 @@ ghost use Rattle.std.specs.Prelude.{◌≡◌, T, pos};
 ghost use Rattle.std.specs.Float.{binary64};
 ghost use Rattle.std.specs.Float.Ieee.{of_int, lt};
 ghost use Rattle.std.specs.Float.Ieee.Positive.{num, den};
+ghost use Rattle.floats.specs.Constants.{c0};
 ghost use Rattle.floats.specs.Round.{away, round_to};
 ghost use Rattle.floats.specs.Inner.Steps.{up_to, Magnitude};
 
@@ -23,7 +24,7 @@ pub fn round_to_i32(x: f32) -> i32
 
 // |x|, cut to 2^31; 0 for a NaN.
 fn magnitude(x: f32) -> f32
-    ensures* { do ⌜ Magnitude (lt x (← (⟦0.0f32⟧).entry)) x result ⌝ }
+    ensures { Magnitude (lt x c0) x result }
 {
     if x > 0.0 {
         if x < 2147483648.0 { x } else { 2147483648.0 }

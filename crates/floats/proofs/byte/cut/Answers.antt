@@ -1,0 +1,33 @@
+-- `cut` meets its contract: each step at the bounded value, as `CutToByte` has it. Assumes nothing.
+use Rattle.std.proofs.Common.{◌≡◌, ℕ, ◌^◌, ◌<◌, sym, ◌∙◌, subst, ⊎_elim}
+use lib.Ieee.{of_bits, to_unsigned}
+use lib.Ieee.Casts.{to_unsigned-lt}
+use Rattle.floats.proofs.Tests.{T_true, T_false}
+use Rattle.floats.proofs.CutToByte.{no_nan, pattern_least, one_at_least, one_less, as_it_is}
+use Rattle.floats.proofs.byte.cut.Goals as goal
+
+pub float_to_bits-n : goal.float_to_bits-n
+unfolding of_bits
+float_to_bits-n c = no_nan c.args.z c.requires
+
+pub overflow_sub-n : goal.overflow_sub-n
+unfolding of_bits
+overflow_sub-n c = pattern_least c.args.z c.requires
+
+pub overflow_sub-v : goal.overflow_sub-v
+unfolding of_bits
+overflow_sub-v c = one_at_least c.args.z c.requires (T_true c.if-t-z.true)
+
+-- where the arms meet
+joined : (c : goal.Joined-t-z) → c.if-t-z.v ≡ to_unsigned 8 c.args.z
+unfolding of_bits
+joined c =
+    let z = c.args.z in
+    let h = c.requires in
+    ⊎_elim (λ w. w.1 ∙ one_less z h (T_true w.0.taken)) (λ w. w.1 ∙ as_it_is z h (T_false w.0.left)) c.if-t-z.branch
+
+pub overflow_cast-result : goal.overflow_cast-result
+overflow_cast-result c = record { fits = subst (λ (v : ℕ). v < 2 ^ 8) (sym (joined c.before)) (to_unsigned-lt 8 c.args.z) }
+
+pub returns : goal.returns
+returns c = joined c.before

@@ -1,0 +1,13 @@
+-- Both tests together say that q is the nearest. Assumes nothing.
+use Rattle.std.proofs.Common.{sym, ◌∙◌, true≢false}
+use Rattle.floats.proofs.Tests.{T_true}
+use Rattle.floats.proofs.RootTested.{under_most, tested}
+use Rattle.floats.proofs.certain.is_nearest.Goals as goal
+
+pub returns-then-above : goal.returns-then-above
+returns-then-above c = λ e.
+    let the-root = c.before in
+    tested the-root.under-root.result c.whole-root.result _ _ (under_most _ the-root.before.requires.0) the-root.before.requires.1 the-root.under-root.ensures c.whole-root.ensures (T_true c.if-above.true) (T_true e)
+
+pub returns-else-above : goal.returns-else-above
+returns-else-above c = λ e. absurd (true≢false (sym e ∙ c.if-above.false))

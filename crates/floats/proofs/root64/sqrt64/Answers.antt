@@ -1,0 +1,40 @@
+-- By the sign of x, and whether it is finite.
+use Rattle.std.proofs.Common.{T, ap, ◌∙◌}
+use lib.Ieee.{binary64, fits, of_bits, lt}
+use lib.Ieee.Bits.{of_bits-to_bits}
+use Rattle.floats.specs.Root.{sqrt_of}
+use Rattle.floats.proofs.RootEnds.{over_none, some_pattern, root_infinite, root_below, root_kept}
+use Rattle.floats.proofs.Fractions.{nought}
+use Rattle.floats.proofs.Tests.{T_true, T_false}
+use Rattle.floats.proofs.root64.sqrt64.Goals as goal
+
+held : (c : goal.Start) → T (fits binary64 c.args.x)
+held c = T_true c.well-formed.0.1
+
+above : (c : goal.Then-x) → T (lt nought c.args.x)
+unfolding of_bits
+above c = T_true c.if-x.true
+
+pub float_to_bits-b : goal.float_to_bits-b
+float_to_bits-b c = over_none nought c.args.x (above c)
+
+pub root_pattern-requires : goal.root_pattern-requires
+root_pattern-requires c = (some_pattern binary64 c.args.x (held c.before) (above c.before), c.if-b-lt9218868437227405312.true)
+
+pub returns-then-b-lt9218868437227405312 : goal.returns-then-b-lt9218868437227405312
+returns-then-b-lt9218868437227405312 c =
+    let s = c.before in
+    c.root_pattern.ensures.0 ∙ ap (sqrt_of binary64) (of_bits-to_bits binary64 s.args.x (held s))
+
+pub returns-else-b-lt9218868437227405312 : goal.returns-else-b-lt9218868437227405312
+returns-else-b-lt9218868437227405312 c =
+    let s = c.before in
+    root_infinite binary64 s.args.x (held s) (above c.before) c.if-b-lt9218868437227405312.false
+
+pub returns-then-x-2 : goal.returns-then-x-2
+unfolding of_bits
+returns-then-x-2 c = root_below binary64 c.args.x (T_false c.if-x.false) (T_true c.if-x-2.true)
+
+pub returns-else-x-2 : goal.returns-else-x-2
+unfolding of_bits
+returns-else-x-2 c = root_kept binary64 c.args.x (T_false c.if-x.false) (T_false c.if-x-2.false)

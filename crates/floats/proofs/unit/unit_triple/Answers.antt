@@ -1,0 +1,49 @@
+-- `unit_triple` meets its contract: a number that is not finite makes the conjunction false, and else the exact test is left. Assumes nothing.
+use Rattle.std.proofs.Common.{◌≡◌, ◌+◌, ◌^◌, Bool, true, false, ◌&&◌, sym, refl, ap, ◌∙◌}
+use borrow.Author.Tests.{not-true, not-false}
+use lib.Ieee.{Float}
+use lib.Ieee.Scale.{finite}
+use Rattle.floats.specs.Unit.{squared, about_one, unit_triple}
+use Rattle.floats.proofs.Tests.{T_true}
+use Rattle.floats.proofs.unit.unit_triple.Goals as goal
+
+abbrev Test : Float → Float → Float → Bool
+Test x y z = about_one (2 ^ 288) (squared x + squared y + squared z)
+
+-- the answer, by what is found of each number
+answer : (x y z : Float) (p q r : Bool) → finite x ≡ p → finite y ≡ q → finite z ≡ r → unit_triple x y z ≡ (p && q && r && Test x y z)
+unfolding unit_triple
+answer x y z p q r a b c = ap (λ (s : Bool). s && finite y && finite z && Test x y z) a ∙ ap (λ (s : Bool). p && s && finite z && Test x y z) b ∙ ap (λ (s : Bool). p && q && s && Test x y z) c
+
+first : (c : goal.Else-not-is_finite) → finite c.args.x ≡ true
+first c = sym c.is_finite.ensures ∙ not-false _ c.if-not-is_finite.false
+
+second : (c : goal.Else-not-is_finite-2) → finite c.args.y ≡ true
+second c = sym c.is_finite-2.ensures ∙ not-false _ c.if-not-is_finite-2.false
+
+third : (c : goal.Else-not-is_finite-3) → finite c.args.z ≡ true
+third c = sym c.is_finite-3.ensures ∙ not-false _ c.if-not-is_finite-3.false
+
+pub returns-then-not-is_finite : goal.returns-then-not-is_finite
+returns-then-not-is_finite c =
+    let a = c.args in
+    sym (answer a.x a.y a.z false (finite a.y) (finite a.z) (sym c.is_finite.ensures ∙ not-true _ c.if-not-is_finite.true) refl refl)
+
+pub returns-then-not-is_finite-2 : goal.returns-then-not-is_finite-2
+returns-then-not-is_finite-2 c =
+    let a = c.args in
+    sym (answer a.x a.y a.z true false (finite a.z) (first c.before) (sym c.is_finite-2.ensures ∙ not-true _ c.if-not-is_finite-2.true) refl)
+
+pub returns-then-not-is_finite-3 : goal.returns-then-not-is_finite-3
+returns-then-not-is_finite-3 c =
+    let a = c.args in
+    sym (answer a.x a.y a.z true true false (first c.before) (second c.before) (sym c.is_finite-3.ensures ∙ not-true _ c.if-not-is_finite-3.true))
+
+pub finite_triple-requires : goal.finite_triple-requires
+finite_triple-requires c = (T_true (first c.before), (T_true (second c.before), T_true (third c)))
+
+pub returns : goal.returns
+returns c =
+    let d = c.before in
+    let a = d.before.before.before.before.before.before.args in
+    c.finite_triple.ensures ∙ sym (answer a.x a.y a.z true true true (first d.before.before.before.before) (second d.before.before) (third d))
