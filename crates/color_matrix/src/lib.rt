@@ -1,4 +1,6 @@
 // The colour matrix filter, as resvg's color_matrix.rs.
+#![tactic(auto)]
+
 mod coefficients;
 mod loops;
 mod pixel;

@@ -1,4 +1,6 @@
 // The component transfer filter, as resvg's component_transfer.rs, without Gamma.
+#![tactic(auto)]
+
 mod functions;
 mod lookup;
 

@@ -1,4 +1,6 @@
 // Arithmetic composition, as resvg's composite.rs.
+#![tactic(auto)]
+
 mod pixel;
 
 ghost use Rattle.std.specs.Prelude.{◌≡◌, ◌%◌, length};

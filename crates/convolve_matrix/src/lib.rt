@@ -1,4 +1,6 @@
 // The convolve matrix filter, as resvg's convolve_matrix.rs.
+#![tactic(auto)]
+
 mod edge;
 mod pixel;
 mod rows;

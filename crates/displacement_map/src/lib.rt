@@ -1,4 +1,6 @@
 // The displacement map filter, as resvg's displacement_map.rs.
+#![tactic(auto)]
+
 mod landing;
 mod moving;
 

@@ -1,4 +1,6 @@
 // Recipes of filters over four slots, as resvg's filter/mod.rs runs a filter's primitives.
+#![tactic(auto)]
+
 mod reach;
 mod step;
 

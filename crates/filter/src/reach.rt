@@ -1,14 +1,14 @@
 // Whether a slot reaches the source, worked out backwards from step to step.
 ghost use Rattle.std.specs.Prelude.{◌≡◌, ◌≤◌, ◌<◌};
 ghost use Rattle.recipe.specs.Tests.{step_of, step_limit};
-ghost use Rattle.filter.specs.Reach.{result};
+ghost use Rattle.filter.specs.Reach as Reach;
 ghost use Rattle.filter.specs.Inner.Engine.{each_once, origins_of, reaches_at};
 
 use recipe::{Inputs, Recipe, inputs_of};
 
 // A slot that is read twice is asked once.
 fn each_once(inputs: Inputs) -> Inputs
-    ensures* { λ r. ⌜ r ≡ each_once inputs ⌝ }
+    ensures { result ≡ each_once inputs }
 {
     match inputs {
         Inputs::None => Inputs::None,
@@ -25,7 +25,7 @@ fn each_once(inputs: Inputs) -> Inputs
 // The slots before step `i` from which `slot` is made: those that the step reads where it writes `slot`, else the slot itself.
 fn origins(recipe: Recipe, i: usize, slot: u32) -> Inputs
     requires { i < step_limit }
-    ensures* { λ r. ⌜ r ≡ origins_of (step_of recipe i) slot ⌝ }
+    ensures { result ≡ origins_of (step_of recipe i) slot }
 {
     let step = recipe.steps[i];
     let output = step.output;
@@ -39,7 +39,7 @@ fn origins(recipe: Recipe, i: usize, slot: u32) -> Inputs
 // Whether slot `slot` after the first `n` steps reaches the source.
 fn slot_reaches(recipe: Recipe, n: usize, slot: u32) -> bool
     requires { n ≤ step_limit }
-    ensures* { λ r. ⌜ r ≡ reaches_at (step_of recipe) n slot ⌝ }
+    ensures { result ≡ reaches_at (step_of recipe) n slot }
 {
     if n == 0 {
         return slot == 0;
@@ -62,7 +62,7 @@ fn slot_reaches(recipe: Recipe, n: usize, slot: u32) -> bool
 pub fn result_reaches(recipe: Recipe) -> bool
     requires count_nonzero { 0 < recipe.count }
     requires count_le_step_limit { recipe.count ≤ step_limit }
-    ensures* { λ r. ⌜ r ≡ reaches_at (step_of recipe) recipe.count (result recipe) ⌝ }
+    ensures { result ≡ reaches_at (step_of recipe) recipe.count (Reach.result recipe) }
 {
     let count = recipe.count;
     let last = count - 1;

@@ -5,7 +5,7 @@ use native.Mathlib.Nat.{eq_of_mul-eq-mul_right}
 use lib.Pow.{pow-lt}
 use lib.Ieee.{Float, nan, inf, fin, Format, binary32, binary64, prec, emax, low, up, down, size, round, units, sum, add, sub, below, lt}
 use lib.Ieee.Digits.{size-lt, size-le}
-use lib.Ieee.Fits.{down_pos, nearest-le, two, two-le_pos}
+use lib.Ieee.Fits.{down_pos, nearest-le, two, two-le_pos, round_is}
 use lib.Ieee.Exact.{HasValue, units_val}
 use lib.Ieee.Nearest.{closest, closest_same}
 use lib.Ieee.Order.{drop, transfer}

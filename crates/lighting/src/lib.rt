@@ -1,4 +1,6 @@
 // Diffuse and specular lighting, as resvg's lighting.rs, with distant and point lights.
+#![tactic(auto)]
+
 mod apply;
 mod light;
 mod pixel;

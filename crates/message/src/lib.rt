@@ -1,4 +1,6 @@
 // Recipes as bytes: what the shore office sends, read and written (docs/MESSAGES.md).
+#![tactic(auto)]
+
 mod block;
 mod choice;
 mod codes;

@@ -1,4 +1,6 @@
 // The examples of docs/MESSAGES.md, read and written again: its standard output is held to be their bytes.
+#![tactic(auto)]
+
 use libc::STDOUT_FILENO;
 
 // The most numbers of an example, and the most bytes.

@@ -1,4 +1,6 @@
 // The morphology filter, as resvg's morphology.rs.
+#![tactic(auto)]
+
 mod operator;
 mod spread;
 

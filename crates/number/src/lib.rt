@@ -1,4 +1,6 @@
 // Numbers of a message: groups of seven bits, lowest first, in the shortest form, below 2^32.
+#![tactic(auto)]
+
 mod groups;
 pub mod reader;
 mod values;

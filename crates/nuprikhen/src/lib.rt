@@ -1,4 +1,6 @@
 // The C functions. Each is total and thin: it calls the Rattle function and turns the answer into two numbers.
+#![tactic(auto)]
+
 mod leaves;
 mod numbers;
 mod nup_color_matrix;

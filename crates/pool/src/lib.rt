@@ -1,4 +1,6 @@
 // Numbers that the host lends: a matrix, a kernel or a table is a range of a lent pool, and all of them range alike.
+#![tactic(auto)]
+
 ghost use Rattle.std.specs.Prelude.{◌≡◌};
 ghost use Rattle.pool.specs.Pool.{in_range, all_finite, all_in_range, numbers_answer, is_in, numbers_of, range_answer};
 

@@ -1,4 +1,6 @@
 // Recipes: values that say which steps are run on which slots, and the tests of a run.
+#![tactic(auto)]
+
 mod contents;
 mod tests;
 

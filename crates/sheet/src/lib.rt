@@ -1,4 +1,6 @@
 // Sheets: lent byte slices of 4 x width x height bytes, r, g, b, a, row by row.
+#![tactic(auto)]
+
 pub mod pixel;
 
 ghost use Rattle.std.specs.Prelude.{◌≡◌, [], ◌∷◌, min, length};

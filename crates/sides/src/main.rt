@@ -1,4 +1,6 @@
 // docs/LAW.md's boundary cases of the side limit, by every primitive and by a recipe: the numbers of their answers.
+#![tactic(auto)]
+
 use color_matrix::ColorMatrix;
 use component_transfer::TransferFunction;
 use convolve_matrix::{ConvolveMatrix, EdgeMode};

@@ -1,4 +1,6 @@
 // The turbulence filter, as resvg's turbulence.rs, without stitching.
+#![tactic(auto)]
+
 mod draw;
 mod lattice;
 mod noise;

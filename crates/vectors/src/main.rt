@@ -1,4 +1,6 @@
 // Replays the Rust's stored answers, a module for each group of cases, and prints how many differ.
+#![tactic(auto)]
+
 mod called;
 mod cases;
 mod color_matrix_cases;

@@ -6,6 +6,5 @@ returns-then-all_ones c = c.all_ones.ensures c.if-all_ones.true
 
 pub put-requires : goal.put-requires
 put-requires c =
-    let the-certain = c.before in
-    let the-start = the-certain.before.before.before.before.before.before.before.before in
-    (the-start.requires, (the-certain.before.before.candidates.ensures, the-certain.all-certain.ensures c.if-all_certain.true))
+    let got = (c.requires, (c.candidates-found.ensures, c.all_certain.ensures c.if-all_certain.true)) in
+    record { at_in_bounds = got.0; candidates = got.1 }

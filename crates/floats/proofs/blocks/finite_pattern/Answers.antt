@@ -12,7 +12,7 @@ unfolding of_bits
 float_to_bits-b c = over_none nought c.args.x (T_true c.if-x.true)
 
 pub returns-then-b-lt2139095040 : goal.returns-then-b-lt2139095040
-returns-then-b-lt2139095040 c = (c.if-b-lt2139095040.true, λ h. of_bits-to_bits binary32 c.args.x (T_true c.well-formed.0.1))
+returns-then-b-lt2139095040 c = (c.if-b-lt2139095040.true, λ h. of_bits-to_bits binary32 c.args.x (T_true c.well_formed.0.1))
 
 pub returns-else-b-lt2139095040 : goal.returns-else-b-lt2139095040
 returns-else-b-lt2139095040 c = (lit< tt, λ h. absurd (not-suc-le-zero h))

@@ -28,6 +28,4 @@ rest-requires c =
 
 pub returns : goal.returns
 returns c =
-    let the-loop = c.before in
-    let the-start = the-loop.before.before.before in
-    roots_done the-start.args.n the-loop.before.lesser.ensures (roots_joined the-loop.loop.invariant.1 the-loop.loop.invariant.0 c.rest.ensures)
+    roots_done c.args.n c.lesser-end.ensures (roots_joined c.loop-i.invariant.1 c.loop-i.invariant.0 c.rest.ensures)

@@ -8,9 +8,8 @@ loop-k-init c = (block_none c.args.at _, lit≤ tt)
 
 pub settled-requires : goal.settled-requires
 settled-requires c =
-    let the-start = c.before in
     let the-loop = c.loop-k in
-    still_candidate the-loop.invariant.0 (the-start.requires.1 the-loop.k c.loop-k-test.true)
+    still_candidate the-loop.invariant.0 (c.requires.candidates the-loop.k c.loop-k-test.true)
 
 pub loop-k-preserved : goal.loop-k-preserved
 loop-k-preserved c =

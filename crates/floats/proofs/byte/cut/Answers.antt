@@ -18,16 +18,18 @@ pub overflow_sub-v : goal.overflow_sub-v
 unfolding of_bits
 overflow_sub-v c = one_at_least c.args.z c.requires (T_true c.if-t-z.true)
 
--- where the arms meet
-joined : (c : goal.Joined-t-z) → c.if-t-z.v ≡ to_unsigned 8 c.args.z
-unfolding of_bits
-joined c =
-    let z = c.args.z in
-    let h = c.requires in
-    ⊎_elim (λ w. w.1 ∙ one_less z h (T_true w.0.taken)) (λ w. w.1 ∙ as_it_is z h (T_false w.0.left)) c.if-t-z.branch
-
 pub overflow_cast-result : goal.overflow_cast-result
-overflow_cast-result c = record { fits = subst (λ (v : ℕ). v < 2 ^ 8) (sym (joined c.before)) (to_unsigned-lt 8 c.args.z) }
+unfolding of_bits
+overflow_cast-result c =
+    let joined : c.if-t-z.v ≡ to_unsigned 8 c.args.z = let z = c.args.z in
+    let h = c.requires in
+    ⊎_elim (λ w. w.1 ∙ one_less z h (T_true w.0.taken)) (λ w. w.1 ∙ as_it_is z h (T_false w.0.left)) c.if-t-z.branch in
+    record { fits = subst (λ (v : ℕ). v < 2 ^ 8) (sym joined) (to_unsigned-lt 8 c.args.z) }
 
 pub returns : goal.returns
-returns c = joined c.before
+unfolding of_bits
+returns c =
+    let joined : c.if-t-z.v ≡ to_unsigned 8 c.args.z = let z = c.args.z in
+    let h = c.requires in
+    ⊎_elim (λ w. w.1 ∙ one_less z h (T_true w.0.taken)) (λ w. w.1 ∙ as_it_is z h (T_false w.0.left)) c.if-t-z.branch in
+    joined

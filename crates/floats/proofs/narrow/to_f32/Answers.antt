@@ -6,17 +6,13 @@ use Rattle.floats.proofs.RootEnds.{equals_itself}
 use Rattle.floats.proofs.NarrowedSign.{no_nan_pattern, one_sign, with_sign, signed_ok, nan_same}
 use Rattle.floats.proofs.narrow.to_f32.Goals as goal
 
-held : (c : goal.Start) → T (fits binary64 c.args.x)
-held c = T_true c.well-formed.0.1
-
 pub float_to_bits-b : goal.float_to_bits-b
 float_to_bits-b c = equals_itself c.args.x (T_true c.if-x.true)
 
 pub narrowed-size-requires : goal.narrowed-size-requires
-narrowed-size-requires c = no_nan_pattern c.args.x (held c.before) (equals_itself c.args.x (T_true c.if-x.true))
-
-sign_le : (c : tie.After-narrowed) → to_bits binary64 c.args.x / 9223372036854775808 ≤ 1
-sign_le c = one_sign c.args.x (held c.before) c.narrowed-size.result c.narrowed-size.ensures.is c.narrowed-size.ensures.small
+narrowed-size-requires c =
+    let held : T (fits binary64 c.args.x) = T_true c.well_formed.0.1 in
+    no_nan_pattern c.args.x held (equals_itself c.args.x (T_true c.if-x.true))
 
 module _ (s m : ℕ) (a : s ≤ 1) (b : m ≤ 2139095040) where
   s-fits : s < 4294967296
@@ -29,19 +25,33 @@ module _ (s m : ℕ) (a : s ≤ 1) (b : m ≤ 2139095040) where
   r-fits = omega arith
 
 pub overflow_cast-sign : goal.overflow_cast-sign
-overflow_cast-sign c = record { fits = s-fits (to_bits binary64 c.args.x / 9223372036854775808) c.narrowed-size.result (sign_le c) c.narrowed-size.ensures.small }
+overflow_cast-sign c =
+    let held : T (fits binary64 c.args.x) = T_true c.well_formed.0.1 in
+    let sign_le : to_bits binary64 c.args.x / 9223372036854775808 ≤ 1 = one_sign c.args.x held c.narrowed-size.result c.narrowed-size.ensures.is c.narrowed-size.ensures.small in
+    record { fits = s-fits (to_bits binary64 c.args.x / 9223372036854775808) c.narrowed-size.result sign_le c.narrowed-size.ensures.small }
 
 pub overflow_mul-sign : goal.overflow_mul-sign
-overflow_mul-sign c = record { fits = t-fits (to_bits binary64 c.args.x / 9223372036854775808) c.narrowed-size.result (sign_le c) c.narrowed-size.ensures.small }
+overflow_mul-sign c =
+    let held : T (fits binary64 c.args.x) = T_true c.well_formed.0.1 in
+    let sign_le : to_bits binary64 c.args.x / 9223372036854775808 ≤ 1 = one_sign c.args.x held c.narrowed-size.result c.narrowed-size.ensures.is c.narrowed-size.ensures.small in
+    record { fits = t-fits (to_bits binary64 c.args.x / 9223372036854775808) c.narrowed-size.result sign_le c.narrowed-size.ensures.small }
 
 pub overflow_add-result : goal.overflow_add-result
-overflow_add-result c = record { fits = r-fits (to_bits binary64 c.args.x / 9223372036854775808) c.narrowed-size.result (sign_le c) c.narrowed-size.ensures.small }
+overflow_add-result c =
+    let held : T (fits binary64 c.args.x) = T_true c.well_formed.0.1 in
+    let sign_le : to_bits binary64 c.args.x / 9223372036854775808 ≤ 1 = one_sign c.args.x held c.narrowed-size.result c.narrowed-size.ensures.is c.narrowed-size.ensures.small in
+    record { fits = r-fits (to_bits binary64 c.args.x / 9223372036854775808) c.narrowed-size.result sign_le c.narrowed-size.ensures.small }
 
 pub float_from_bits-result : goal.float_from_bits-result
-float_from_bits-result c = signed_ok (to_bits binary64 c.args.x / 9223372036854775808) c.narrowed-size.result (sign_le c) c.narrowed-size.ensures.small
+float_from_bits-result c =
+    let held : T (fits binary64 c.args.x) = T_true c.well_formed.0.1 in
+    let sign_le : to_bits binary64 c.args.x / 9223372036854775808 ≤ 1 = one_sign c.args.x held c.narrowed-size.result c.narrowed-size.ensures.is c.narrowed-size.ensures.small in
+    signed_ok (to_bits binary64 c.args.x / 9223372036854775808) c.narrowed-size.result sign_le c.narrowed-size.ensures.small
 
 pub returns-then-x : goal.returns-then-x
-returns-then-x c = with_sign c.args.x (held c.before) c.narrowed-size.result c.narrowed-size.ensures.is c.narrowed-size.ensures.small
+returns-then-x c =
+    let held : T (fits binary64 c.args.x) = T_true c.well_formed.0.1 in
+    with_sign c.args.x held c.narrowed-size.result c.narrowed-size.ensures.is c.narrowed-size.ensures.small
 
 pub returns-else-x : goal.returns-else-x
 unfolding of_bits

@@ -10,7 +10,7 @@ float_from_bits-result c = tt
 
 pub returns-then-x : goal.returns-then-x
 unfolding of_bits
-returns-then-x c = from_zero c.args.x (T_true c.well-formed.0.1) (T_true c.if-x.true)
+returns-then-x c = from_zero c.args.x (T_true c.well_formed.0.1) (T_true c.if-x.true)
 
 pub returns-else-x : goal.returns-else-x
 unfolding of_bits

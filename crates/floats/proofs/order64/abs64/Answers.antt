@@ -8,10 +8,10 @@ pub float_to_bits-result : goal.float_to_bits-result
 float_to_bits-result c = equals_itself c.args.x (T_true c.if-x.true)
 
 pub float_from_bits-result : goal.float_from_bits-result
-float_from_bits-result c = still_a_number c.args.x (T_true c.well-formed.0.1) (equals_itself c.args.x (T_true c.if-x.true))
+float_from_bits-result c = still_a_number c.args.x (T_true c.well_formed.0.1) (equals_itself c.args.x (T_true c.if-x.true))
 
 pub returns-then-x : goal.returns-then-x
-returns-then-x c = without_sign c.args.x (T_true c.well-formed.0.1)
+returns-then-x c = without_sign c.args.x (T_true c.well_formed.0.1)
 
 pub returns-else-x : goal.returns-else-x
 returns-else-x c = no_number c.args.x (T_false c.if-x.false)

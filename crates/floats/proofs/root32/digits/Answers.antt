@@ -30,14 +30,11 @@ raised-requires c = (c.loop-p.invariant.most, c.guess.ensures)
 
 pub lowered-q-requires : goal.lowered-q-requires
 lowered-q-requires c =
-    let s = c.before in
-    (scaled_some _ _ _ s.loop.invariant (doubled_some s.before.args.m s.before.args.odd s.before.requires.0), c.raised.ensures.0, c.raised.ensures.1)
+    (scaled_some _ _ _ c.loop-p.invariant (doubled_some c.args.m c.args.odd c.requires.0), c.raised.ensures.0, c.raised.ensures.1)
 
 pub overflow_cast-result : goal.overflow_cast-result
-overflow_cast-result c = let s = c.before in let l = near_high _ _ 16777216 s.loop.invariant.most c.lowered-q.ensures in record { fits = omega arith }
+overflow_cast-result c = let l = near_high _ _ 16777216 c.loop-p.invariant.most c.lowered-q.ensures in record { fits = omega arith }
 
 pub returns : goal.returns
 returns c =
-    let t = c.before in
-    let s = t.before in
-    scaled_root _ _ _ s.loop.invariant (doubled_some s.before.args.m s.before.args.odd s.before.requires.0) _ t.loop-test.false c.lowered-q.ensures
+    scaled_root _ _ _ c.loop-p.invariant (doubled_some c.args.m c.args.odd c.requires.0) _ c.loop-p-test.false c.lowered-q.ensures

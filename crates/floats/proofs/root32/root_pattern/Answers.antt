@@ -10,9 +10,7 @@ overflow_mul-q c = let l = square_most _ c.guess-q.ensures in record { fits = om
 
 pub returns-then-n-q : goal.returns-then-n-q
 returns-then-n-q c =
-    let r = c.before in
-    let s = r.before.before in
     let q = c.guess-q.result in
-    let near = subst (λ (n : ℕ). Near n q) r.under-root.ensures.0 (record { above = c.if-q-n.true; under = c.if-n-q.true }) in
-    let least = r.before.if1.false in
-    (guessed_is s.args.b q least s.requires.1 near, guessed_ok s.args.b q least s.requires.1 near)
+    let near = subst (λ (n : ℕ). Near n q) c.under_root-n.ensures.0 (record { above = c.if-q-n.true; under = c.if-n-q.true }) in
+    let least = c.if-b-lt8388608.false in
+    (guessed_is c.args.b q least c.requires.1 near, guessed_ok c.args.b q least c.requires.1 near)

@@ -8,28 +8,30 @@ use Rattle.floats.proofs.Fractions.{nought}
 use Rattle.floats.proofs.Tests.{T_true, T_false}
 use Rattle.floats.proofs.root32.sqrt32.Goals as goal
 
-held : (c : goal.Start) → T (fits binary32 c.args.x)
-held c = T_true c.well-formed.0.1
-
-above : (c : goal.Then-x) → T (lt nought c.args.x)
-unfolding of_bits
-above c = T_true c.if-x.true
-
 pub float_to_bits-b : goal.float_to_bits-b
-float_to_bits-b c = over_none nought c.args.x (above c)
+unfolding of_bits
+float_to_bits-b c =
+    let above : T (lt nought c.args.x) = T_true c.if-x.true in
+    over_none nought c.args.x above
 
 pub root_pattern-requires : goal.root_pattern-requires
-root_pattern-requires c = (some_pattern binary32 c.args.x (held c.before) (above c.before), c.if-b-lt2139095040.true)
+unfolding of_bits
+root_pattern-requires c =
+    let held : T (fits binary32 c.args.x) = T_true c.well_formed.0.1 in
+    let above : T (lt nought c.args.x) = T_true c.if-x.true in
+    (some_pattern binary32 c.args.x held above, c.if-b-lt2139095040.true)
 
 pub returns-then-b-lt2139095040 : goal.returns-then-b-lt2139095040
 returns-then-b-lt2139095040 c =
-    let s = c.before in
-    c.root_pattern.ensures.0 ∙ ap (sqrt_of binary32) (of_bits-to_bits binary32 s.args.x (held s))
+    let held : T (fits binary32 c.args.x) = T_true c.well_formed.0.1 in
+    c.root_pattern.ensures.0 ∙ ap (sqrt_of binary32) (of_bits-to_bits binary32 c.args.x held)
 
 pub returns-else-b-lt2139095040 : goal.returns-else-b-lt2139095040
+unfolding of_bits
 returns-else-b-lt2139095040 c =
-    let s = c.before in
-    root_infinite binary32 s.args.x (held s) (above c.before) c.if-b-lt2139095040.false
+    let held : T (fits binary32 c.args.x) = T_true c.well_formed.0.1 in
+    let above : T (lt nought c.args.x) = T_true c.if-x.true in
+    root_infinite binary32 c.args.x held above c.if-b-lt2139095040.false
 
 pub returns-then-x-2 : goal.returns-then-x-2
 unfolding of_bits

@@ -8,28 +8,30 @@ use Rattle.floats.proofs.Fractions.{nought}
 use Rattle.floats.proofs.Tests.{T_true, T_false}
 use Rattle.floats.proofs.root64.sqrt64.Goals as goal
 
-held : (c : goal.Start) → T (fits binary64 c.args.x)
-held c = T_true c.well-formed.0.1
-
-above : (c : goal.Then-x) → T (lt nought c.args.x)
-unfolding of_bits
-above c = T_true c.if-x.true
-
 pub float_to_bits-b : goal.float_to_bits-b
-float_to_bits-b c = over_none nought c.args.x (above c)
+unfolding of_bits
+float_to_bits-b c =
+    let above : T (lt nought c.args.x) = T_true c.if-x.true in
+    over_none nought c.args.x above
 
 pub root_pattern-requires : goal.root_pattern-requires
-root_pattern-requires c = (some_pattern binary64 c.args.x (held c.before) (above c.before), c.if-b-lt9218868437227405312.true)
+unfolding of_bits
+root_pattern-requires c =
+    let held : T (fits binary64 c.args.x) = T_true c.well_formed.0.1 in
+    let above : T (lt nought c.args.x) = T_true c.if-x.true in
+    (some_pattern binary64 c.args.x held above, c.if-b-lt9218868437227405312.true)
 
 pub returns-then-b-lt9218868437227405312 : goal.returns-then-b-lt9218868437227405312
 returns-then-b-lt9218868437227405312 c =
-    let s = c.before in
-    c.root_pattern.ensures.0 ∙ ap (sqrt_of binary64) (of_bits-to_bits binary64 s.args.x (held s))
+    let held : T (fits binary64 c.args.x) = T_true c.well_formed.0.1 in
+    c.root_pattern.ensures.0 ∙ ap (sqrt_of binary64) (of_bits-to_bits binary64 c.args.x held)
 
 pub returns-else-b-lt9218868437227405312 : goal.returns-else-b-lt9218868437227405312
+unfolding of_bits
 returns-else-b-lt9218868437227405312 c =
-    let s = c.before in
-    root_infinite binary64 s.args.x (held s) (above c.before) c.if-b-lt9218868437227405312.false
+    let held : T (fits binary64 c.args.x) = T_true c.well_formed.0.1 in
+    let above : T (lt nought c.args.x) = T_true c.if-x.true in
+    root_infinite binary64 c.args.x held above c.if-b-lt9218868437227405312.false
 
 pub returns-then-x-2 : goal.returns-then-x-2
 unfolding of_bits

@@ -4,7 +4,7 @@ use Rattle.floats.proofs.RootPatterns.{unpacked_low, unpacked_high}
 use Rattle.floats.proofs.root64.unpacked.Goals as goal
 
 pub returns-then-field-eq0 : goal.returns-then-field-eq0
-returns-then-field-eq0 c = let s = c.before in unpacked_low binary64 s.args.b s.requires.0 s.requires.1 c.if-field-eq0.true
+returns-then-field-eq0 c = unpacked_low binary64 c.args.b c.requires.0 c.requires.1 c.if-field-eq0.true
 
 pub returns-else-field-eq0 : goal.returns-else-field-eq0
-returns-else-field-eq0 c = let s = c.before in unpacked_high binary64 s.args.b s.requires.1 c.if-field-eq0.false
+returns-else-field-eq0 c = unpacked_high binary64 c.args.b c.requires.1 c.if-field-eq0.false

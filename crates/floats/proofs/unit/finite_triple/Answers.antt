@@ -92,60 +92,49 @@ module _ (a b c : ℕ) where
 
 pub about_one-requires : goal.about_one-requires
 about_one-requires c =
-    let d = c.before in
-    (d.before.before.square.ensures.digits, (pb d, (pc d, (c-b d c.if-c-b.true, b-a d c.if-b-a.true))))
+    let got = (c.square-a.ensures.digits, (pb c, (pc c, (c-b c c.if-c-b.true, b-a c c.if-b-a.true)))) in
+    record { fact_1 = got.0; fact_2 = got.1; fact_3 = got.2; fact_4 = got.3 }
 
 pub about_one-requires-then-c-a : goal.about_one-requires-then-c-a
 about_one-requires-then-c-a c =
-    let d = c.before in
-    (d.before.before.square.ensures.digits, (pc d, (pb d, (b-c d c.if-c-b.false, c-a d c.if-c-a.true))))
+    (c.square-a.ensures.digits, (pc c, (pb c, (b-c c c.if-c-b.false, c-a c c.if-c-a.true))))
 
 pub about_one-requires-else-c-a : goal.about_one-requires-else-c-a
 about_one-requires-else-c-a c =
-    let d = c.before in
-    (d.square3.ensures.digits, (pa d, (pb d, (b-a d c.if-b-a.true, a_c d c.if-c-a.false))))
+    (c.square-c.ensures.digits, (pa c, (pb c, (b-a c c.if-b-a.true, a_c c c.if-c-a.false))))
 
 pub about_one-requires-then-c-a-2 : goal.about_one-requires-then-c-a-2
 about_one-requires-then-c-a-2 c =
-    let d = c.before in
-    (d.before.square2.ensures.digits, (pa d, (pc d, (c-a d c.if-c-a-2.true, a-b d c.if-b-a.false))))
+    (c.square-b.ensures.digits, (pa c, (pc c, (c-a c c.if-c-a-2.true, a-b c c.if-b-a.false))))
 
 pub about_one-requires-then-c-b-2 : goal.about_one-requires-then-c-b-2
 about_one-requires-then-c-b-2 c =
-    let d = c.before in
-    (d.before.square2.ensures.digits, (pc d, (pa d, (a_c d c.if-c-a-2.false, c-b d c.if-c-b-2.true))))
+    (c.square-b.ensures.digits, (pc c, (pa c, (a_c c c.if-c-a-2.false, c-b c c.if-c-b-2.true))))
 
 pub about_one-requires-else-c-b-2 : goal.about_one-requires-else-c-b-2
 about_one-requires-else-c-b-2 c =
-    let d = c.before in
-    (d.square3.ensures.digits, (pb d, (pa d, (a-b d c.if-b-a.false, b-c d c.if-c-b-2.false))))
+    (c.square-c.ensures.digits, (pb c, (pa c, (a-b c c.if-b-a.false, b-c c c.if-c-b-2.false))))
 
 pub returns-then-c-b : goal.returns-then-c-b
 returns-then-c-b c =
-    let d = c.before in
-    c.about_one.ensures ∙ answer d (U (A d) + (U (B d) + U (C d))) (abc (U (A d)) (U (B d)) (U (C d)))
+    c.about_one.ensures ∙ answer c (U (A c) + (U (B c) + U (C c))) (abc (U (A c)) (U (B c)) (U (C c)))
 
 pub returns-then-c-a : goal.returns-then-c-a
 returns-then-c-a c =
-    let d = c.before in
-    c.about_one-then-c-a.ensures ∙ answer d (U (A d) + (U (C d) + U (B d))) (acb (U (A d)) (U (B d)) (U (C d)))
+    c.about_one-then-c-a.ensures ∙ answer c (U (A c) + (U (C c) + U (B c))) (acb (U (A c)) (U (B c)) (U (C c)))
 
 pub returns-else-c-a : goal.returns-else-c-a
 returns-else-c-a c =
-    let d = c.before in
-    c.about_one-else-c-a.ensures ∙ answer d (U (C d) + (U (A d) + U (B d))) (cab (U (A d)) (U (B d)) (U (C d)))
+    c.about_one-else-c-a.ensures ∙ answer c (U (C c) + (U (A c) + U (B c))) (cab (U (A c)) (U (B c)) (U (C c)))
 
 pub returns-then-c-a-2 : goal.returns-then-c-a-2
 returns-then-c-a-2 c =
-    let d = c.before in
-    c.about_one-then-c-a-2.ensures ∙ answer d (U (B d) + (U (A d) + U (C d))) (bac (U (A d)) (U (B d)) (U (C d)))
+    c.about_one-then-c-a-2.ensures ∙ answer c (U (B c) + (U (A c) + U (C c))) (bac (U (A c)) (U (B c)) (U (C c)))
 
 pub returns-then-c-b-2 : goal.returns-then-c-b-2
 returns-then-c-b-2 c =
-    let d = c.before in
-    c.about_one-then-c-b-2.ensures ∙ answer d (U (B d) + (U (C d) + U (A d))) (bca (U (A d)) (U (B d)) (U (C d)))
+    c.about_one-then-c-b-2.ensures ∙ answer c (U (B c) + (U (C c) + U (A c))) (bca (U (A c)) (U (B c)) (U (C c)))
 
 pub returns-else-c-b-2 : goal.returns-else-c-b-2
 returns-else-c-b-2 c =
-    let d = c.before in
-    c.about_one-else-c-b-2.ensures ∙ answer d (U (C d) + (U (B d) + U (A d))) (cba (U (A d)) (U (B d)) (U (C d)))
+    c.about_one-else-c-b-2.ensures ∙ answer c (U (C c) + (U (B c) + U (A c))) (cba (U (A c)) (U (B c)) (U (C c)))

@@ -15,15 +15,6 @@ answer : (x y z : Float) (p q r : Bool) → finite x ≡ p → finite y ≡ q �
 unfolding unit_triple
 answer x y z p q r a b c = ap (λ (s : Bool). s && finite y && finite z && Test x y z) a ∙ ap (λ (s : Bool). p && s && finite z && Test x y z) b ∙ ap (λ (s : Bool). p && q && s && Test x y z) c
 
-first : (c : goal.Else-not-is_finite) → finite c.args.x ≡ true
-first c = sym c.is_finite.ensures ∙ not-false _ c.if-not-is_finite.false
-
-second : (c : goal.Else-not-is_finite-2) → finite c.args.y ≡ true
-second c = sym c.is_finite-2.ensures ∙ not-false _ c.if-not-is_finite-2.false
-
-third : (c : goal.Else-not-is_finite-3) → finite c.args.z ≡ true
-third c = sym c.is_finite-3.ensures ∙ not-false _ c.if-not-is_finite-3.false
-
 pub returns-then-not-is_finite : goal.returns-then-not-is_finite
 returns-then-not-is_finite c =
     let a = c.args in
@@ -31,19 +22,28 @@ returns-then-not-is_finite c =
 
 pub returns-then-not-is_finite-2 : goal.returns-then-not-is_finite-2
 returns-then-not-is_finite-2 c =
+    let first : finite c.args.x ≡ true = sym c.is_finite.ensures ∙ not-false _ c.if-not-is_finite.false in
     let a = c.args in
-    sym (answer a.x a.y a.z true false (finite a.z) (first c.before) (sym c.is_finite-2.ensures ∙ not-true _ c.if-not-is_finite-2.true) refl)
+    sym (answer a.x a.y a.z true false (finite a.z) first (sym c.is_finite-2.ensures ∙ not-true _ c.if-not-is_finite-2.true) refl)
 
 pub returns-then-not-is_finite-3 : goal.returns-then-not-is_finite-3
 returns-then-not-is_finite-3 c =
+    let first : finite c.args.x ≡ true = sym c.is_finite.ensures ∙ not-false _ c.if-not-is_finite.false in
+    let second : finite c.args.y ≡ true = sym c.is_finite-2.ensures ∙ not-false _ c.if-not-is_finite-2.false in
     let a = c.args in
-    sym (answer a.x a.y a.z true true false (first c.before) (second c.before) (sym c.is_finite-3.ensures ∙ not-true _ c.if-not-is_finite-3.true))
+    sym (answer a.x a.y a.z true true false first second (sym c.is_finite-3.ensures ∙ not-true _ c.if-not-is_finite-3.true))
 
 pub finite_triple-requires : goal.finite_triple-requires
-finite_triple-requires c = (T_true (first c.before), (T_true (second c.before), T_true (third c)))
+finite_triple-requires c =
+    let first : finite c.args.x ≡ true = sym c.is_finite.ensures ∙ not-false _ c.if-not-is_finite.false in
+    let second : finite c.args.y ≡ true = sym c.is_finite-2.ensures ∙ not-false _ c.if-not-is_finite-2.false in
+    let third : finite c.args.z ≡ true = sym c.is_finite-3.ensures ∙ not-false _ c.if-not-is_finite-3.false in
+    (T_true first, (T_true second, T_true third))
 
 pub returns : goal.returns
 returns c =
-    let d = c.before in
-    let a = d.before.before.before.before.before.before.args in
-    c.finite_triple.ensures ∙ sym (answer a.x a.y a.z true true true (first d.before.before.before.before) (second d.before.before) (third d))
+    let first : finite c.args.x ≡ true = sym c.is_finite.ensures ∙ not-false _ c.if-not-is_finite.false in
+    let second : finite c.args.y ≡ true = sym c.is_finite-2.ensures ∙ not-false _ c.if-not-is_finite-2.false in
+    let third : finite c.args.z ≡ true = sym c.is_finite-3.ensures ∙ not-false _ c.if-not-is_finite-3.false in
+    let a = c.args in
+    c.finite_triple.ensures ∙ sym (answer a.x a.y a.z true true true first second third)

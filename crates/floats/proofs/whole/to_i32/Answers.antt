@@ -13,19 +13,21 @@ truncating_f64_to_i64-requires c =
     let x = c.args.x in
     (wider_lowest 31 63 x (lit< tt) (T_true c.if-x.true) (T_true c.if-x-2.true), wider_past 31 63 x (lit< tt) (T_true c.if-x-2.true))
 
--- the number that is cut as an `i64` is the `i32`
-cut : (c : tie.After-truncating-f64-to-i64) → to_z w64 (of_z w64 c.truncating_f64_to_i64.result) ≡ to_signed 31 c.args.x
-unfolding of_bits neg
-cut c =
-    let x = c.args.x in
-    let told = c.truncating_f64_to_i64.ensures in
-    to_z-of_z w64 _ (subst (SFits w64) (sym told) (record { sfits = to_signed_in 63 x })) ∙ told ∙ inside 31 63 x (lit≤ tt) (T_true c.if-x.true) (T_true c.if-x-2.true)
-
 pub overflow_cast-result : goal.overflow_cast-result
-overflow_cast-result c = subst (SFits w32) (sym (cut c)) (record { sfits = to_signed_in 31 c.args.x })
+unfolding of_bits neg
+overflow_cast-result c =
+    let cut : to_z w64 (of_z w64 c.truncating_f64_to_i64.result) ≡ to_signed 31 c.args.x = let x = c.args.x in
+    let told = c.truncating_f64_to_i64.ensures in
+    to_z-of_z w64 _ (subst (SFits w64) (sym told) (record { sfits = to_signed_in 63 x })) ∙ told ∙ inside 31 63 x (lit≤ tt) (T_true c.if-x.true) (T_true c.if-x-2.true) in
+    subst (SFits w32) (sym cut) (record { sfits = to_signed_in 31 c.args.x })
 
 pub returns-then-x-2 : goal.returns-then-x-2
-returns-then-x-2 c = to_z-of_z w32 _ (cast-result c) ∙ cut c
+unfolding of_bits neg
+returns-then-x-2 c =
+    let cut : to_z w64 (of_z w64 c.truncating_f64_to_i64.result) ≡ to_signed 31 c.args.x = let x = c.args.x in
+    let told = c.truncating_f64_to_i64.ensures in
+    to_z-of_z w64 _ (subst (SFits w64) (sym told) (record { sfits = to_signed_in 63 x })) ∙ told ∙ inside 31 63 x (lit≤ tt) (T_true c.if-x.true) (T_true c.if-x-2.true) in
+    to_z-of_z w32 _ (cast-result c) ∙ cut
 
 pub returns-else-x-2 : goal.returns-else-x-2
 unfolding of_bits neg
