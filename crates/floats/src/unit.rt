@@ -33,9 +33,9 @@ pub fn unit_triple(x: f32, y: f32, z: f32) -> bool
 
 // `unit_triple` of three finite numbers: their squares, exact in `f64`, in falling order.
 fn finite_triple(x: f32, y: f32, z: f32) -> bool
-    requires fact_1 { T (finite x) }
-    requires fact_2 { T (finite y) }
-    requires fact_3 { T (finite z) }
+    requires x_finite { T (finite x) }
+    requires y_finite { T (finite y) }
+    requires z_finite { T (finite z) }
     ensures { result ≡ about_one (2 ^ 288) (squared x + squared y + squared z) }
 {
     let a: f64 = square(x);
@@ -70,10 +70,10 @@ fn square(x: f32) -> f64
 // Whether hi + mid + lo is within 1/1024 of 1, exactly, for three squares of `f32` in falling order.
 // Below a quarter the largest cannot do; from there on, what it leaves of each bound is exact.
 fn about_one(hi: f64, mid: f64, lo: f64) -> bool
-    requires fact_1 { FewDigits hi }
-    requires fact_2 { T (plain mid) }
-    requires fact_3 { T (plain lo) }
-    requires fact_4 { (in_units binary64 lo ≤ in_units binary64 mid) × (in_units binary64 mid ≤ in_units binary64 hi) }
+    requires hi_few { FewDigits hi }
+    requires mid_plain { T (plain mid) }
+    requires lo_plain { T (plain lo) }
+    requires falling { (in_units binary64 lo ≤ in_units binary64 mid) × (in_units binary64 mid ≤ in_units binary64 hi) }
     ensures { result ≡ about_one (2 ^ 1064) (in_units binary64 hi + (in_units binary64 mid + in_units binary64 lo)) }
 {
     if hi <= 1.0009765625 {
@@ -95,10 +95,10 @@ fn about_one(hi: f64, mid: f64, lo: f64) -> bool
 
 // Whether mid + lo <= most, exactly, for a lo that is no more than mid.
 fn sum_at_most(mid: f64, lo: f64, most: f64) -> bool
-    requires fact_1 { T (plain mid) }
-    requires fact_2 { T (plain lo) }
-    requires fact_3 { T (plain most) }
-    requires fact_4 { in_units binary64 lo ≤ in_units binary64 mid }
+    requires mid_plain { T (plain mid) }
+    requires lo_plain { T (plain lo) }
+    requires most_plain { T (plain most) }
+    requires falling { in_units binary64 lo ≤ in_units binary64 mid }
     ensures { result ≡ nat_le (in_units binary64 mid + in_units binary64 lo) (in_units binary64 most) }
 {
     if mid <= most { lo <= most - mid } else { false }
@@ -106,10 +106,10 @@ fn sum_at_most(mid: f64, lo: f64, most: f64) -> bool
 
 // Whether mid + lo >= least, exactly, for a lo that is no more than mid, and a mid of 2 at most.
 fn sum_at_least(mid: f64, lo: f64, least: f64) -> bool
-    requires fact_1 { T (plain mid) }
-    requires fact_2 { T (plain lo) }
-    requires fact_3 { T (plain least) }
-    requires fact_4 { (in_units binary64 lo ≤ in_units binary64 mid) × (in_units binary64 mid ≤ 2 ^ 1075) }
+    requires mid_plain { T (plain mid) }
+    requires lo_plain { T (plain lo) }
+    requires least_plain { T (plain least) }
+    requires falling { (in_units binary64 lo ≤ in_units binary64 mid) × (in_units binary64 mid ≤ 2 ^ 1075) }
     ensures { result ≡ nat_le (in_units binary64 least) (in_units binary64 mid + in_units binary64 lo) }
 {
     if least <= mid {
