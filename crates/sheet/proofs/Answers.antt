@@ -1,7 +1,7 @@
 -- The laws of answers and of tests 1 and 2: what a chain of tests that ends in Done tells, and which refusal stands.
-use Prim.Native.Nat.{ℕ, ◌+◌, ◌*◌, ◌%◌, ◌≤◌, ◌<◌}
+use Prim.Native.Nat.{ℕ, ◌*◌, ◌%◌, ◌≤◌, ◌<◌}
 use mathlib.Core.Path.{◌≡◌, refl, sym, ◌∙◌}
-use mathlib.Core.Bool.{Bool, true, false, cond, not, true≢false}
+use mathlib.Core.Bool.{Bool, true, false, cond, true≢false}
 use mathlib.Core.List.{List, [], ◌∷◌, ◌++◌}
 use native.Mathlib.Nat.{mul_assoc, mul-le-mul}
 use native.Mathlib.Omega.{arith}
@@ -22,11 +22,11 @@ use Rattle.sheet.specs.contracts.Answer.{the_type}
 pub ruleset tests = (rules, eq-eqb, ne_eqb, lt-ltb, le-ltb, le-leb, lt-leb, not-true, not-false)
 
 -- what a test `!f(x)` tells of the definition that f's contract cites
-pub denied : {r t : Bool} → r ≡ t → not r ≡ true → t ≡ false
-denied {r} {t} e n = sym e ∙ not-true r n
+pub denied : {r t : Bool} → r ≡ t → r ≡ false → t ≡ false
+denied {r} {t} e n = sym e ∙ n
 
-pub allowed : {r t : Bool} → r ≡ t → not r ≡ false → t ≡ true
-allowed {r} {t} e n = sym e ∙ not-false r n
+pub allowed : {r t : Bool} → r ≡ t → r ≡ true → t ≡ true
+allowed {r} {t} e n = sym e ∙ n
 
 -- what `let Answer::Done = t else { return t; };` tells at the return
 pub refusing : (t : Answer) → OneOf (1 ∷ []) (tag_of the_type t) → IsRefusal t
