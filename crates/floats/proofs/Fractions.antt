@@ -1,5 +1,5 @@
 -- Sums, differences, orders and roundings of floats, by any fractions that they equal, in any format. Assumes nothing.
-use Rattle.std.proofs.Common.{◌≡◌, ℕ, suc, ◌+◌, ◌-◌, ◌*◌, ◌/◌, ◌%◌, ◌^◌, ◌<◌, ◌≤◌, Bool, true, false, cond, not, T, ltb, sym, refl, ap, ◌∙◌, subst, true≢false, le_trans, le_of_eq, lt_of_lt_of_le, lt_of_le_of_lt, mul-le-mul_right, mul_assoc, mul_comm, div-lt_iff_lt-mul, add-mul, mul-lt-mul_of_pos_right, mul-pos, lt_of_not-le, le-div_iff_mul-le, mul-one, mul_right_comm, not-le_of_lt, mul_left_comm, le_of_mul-le-mul_right, lt_of_mul-lt-mul_right, arith, lit<, ltb→lt, nltb→le, pow_pos, pow_mono, pow-add}
+use Rattle.std.proofs.Common.{◌≡◌, ℕ, suc, ◌+◌, ◌-◌, ◌*◌, ◌/◌, ◌%◌, ◌^◌, ◌<◌, ◌≤◌, Bool, true, false, cond, not, T, ltb, sym, refl, ap, ◌∙◌, true≢false, le_trans, le_of_eq, lt_of_lt_of_le, lt_of_le_of_lt, mul-le-mul_right, mul_assoc, mul_comm, div-lt_iff_lt-mul, add-mul, mul-lt-mul_of_pos_right, mul-pos, lt_of_not-le, le-div_iff_mul-le, mul-one, mul_right_comm, not-le_of_lt, mul_left_comm, le_of_mul-le-mul_right, lt_of_mul-lt-mul_right, arith, lit<, ltb→lt, nltb→le, pow_pos, pow_mono, pow-add}
 use Prim.Native.Nat.{compare}
 use native.Mathlib.Nat.{eq_of_mul-eq-mul_right}
 use lib.Pow.{pow-lt}
@@ -9,7 +9,7 @@ use lib.Ieee.Fits.{down_pos, nearest-le, two, two-le_pos, round_is}
 use lib.Ieee.Exact.{HasValue, units_val}
 use lib.Ieee.Nearest.{closest, closest_same}
 use lib.Ieee.Order.{drop, transfer}
-use lib.Ieee.Scale.{round_same, grid, overflow, round_val}
+use lib.Ieee.Scale.{round_same, overflow}
 use Rattle.floats.proofs.Tests.{is_false, sub_mul}
 
 -- the literal 0.0

@@ -1,10 +1,8 @@
 -- Adding 2 ^ (prec - 1) to a value below that leaves a whole number k nearest to it, and subtracting it again is exact. Assumes nothing.
-use Rattle.std.proofs.Common.{◌≡◌, ℕ, zero, suc, ◌+◌, ◌-◌, ◌*◌, ◌/◌, ◌%◌, ◌^◌, ◌<◌, ◌≤◌, true, false, not, T, eqb, pos, sym, refl, ap, ◌∙◌, subst, le_trans, le_of_eq, lt_of_lt_of_le, lt_of_le_of_lt, le_of_lt, mod-lt, zero-lt-suc, div-lt_iff_lt-mul, add-mul, mul-lt-mul_of_pos_right, one-mul, div-add-mod', mul-one, arith, eqb→eq, leb→le}
-use Prim.Native.Nat.{compare, Ordering}
+use Rattle.std.proofs.Common.{◌≡◌, ℕ, suc, ◌+◌, ◌-◌, ◌*◌, ◌/◌, ◌%◌, ◌^◌, ◌<◌, ◌≤◌, true, false, T, pos, sym, refl, ap, ◌∙◌, subst, le_trans, le_of_eq, lt_of_lt_of_le, lt_of_le_of_lt, zero-lt-suc, div-lt_iff_lt-mul, add-mul, mul-lt-mul_of_pos_right, one-mul, mul-one, arith, leb→le}
+use Prim.Native.Nat.{compare}
 use native.Mathlib.Nat.{add-mul-div_right}
-use lib.Dec.{is_le, compare_is_eq, nleb→lt, eqb_refl}
-use lib.Arith.{lt_of_le-ne}
-use lib.Ieee.{Float, nan, inf, fin, Format, binary32, binary64, prec, up, down, nearest, round, add, sub}
+use lib.Ieee.{Float, nan, inf, fin, Format, binary32, binary64, prec, up, down, round, add, sub}
 use lib.Ieee.Fits.{nearest-le}
 use lib.Ieee.Exact.{HasValue}
 use lib.Ieee.Nearest.{closest, nearest-ge}

@@ -1,5 +1,5 @@
 -- The whole number to which a rounded fraction is rounded, a half away from zero: it keeps the sign, and is within 3 / 4 of the fraction. Assumes nothing.
-use Rattle.std.proofs.Common.{◌≡◌, ℕ, suc, ◌+◌, ◌-◌, ◌*◌, ◌/◌, ◌%◌, ◌^◌, ◌<◌, ◌≤◌, min, Bool, true, false, cond, T, ℤ, pos, neg_ℤ, ap, ◌∙◌, mul-le-mul_right, mod-lt, lt_of_mul-lt-mul_right, mul-pos, div-add-mod', le_of_mul-le-mul_right, arith, lit≤, pow_pos}
+use Rattle.std.proofs.Common.{◌≡◌, ℕ, suc, ◌+◌, ◌-◌, ◌*◌, ◌%◌, ◌^◌, ◌<◌, ◌≤◌, min, Bool, true, false, cond, T, ℤ, pos, neg_ℤ, ap, ◌∙◌, mul-le-mul_right, mod-lt, lt_of_mul-lt-mul_right, mul-pos, div-add-mod', le_of_mul-le-mul_right, arith, lit≤, pow_pos}
 use lib.Ieee.{Float, nan, inf, fin, Format, binary32, binary64, prec, low, up, down, round}
 use lib.Ieee.Fits.{down_pos}
 use lib.Ieee.Scale.{finite}

@@ -1,5 +1,5 @@
 -- Where sixteen are counted, all are found. Assumes nothing.
-use Rattle.std.proofs.Common.{◌-◌, ◌≤◌, arith, lit≤, rules}
+use Rattle.std.proofs.Common.{arith, lit≤, rules}
 use Rattle.floats.proofs.RootsBetween.{passed_none, passed_more, passed_all}
 use Rattle.floats.proofs.blocks.all_certain.Goals as goal
 

@@ -1,5 +1,5 @@
 -- Where sixteen are counted, all are their own roots. Assumes nothing.
-use Rattle.std.proofs.Common.{◌-◌, ◌≤◌, arith, lit≤, rules}
+use Rattle.std.proofs.Common.{arith, lit≤, rules}
 use Rattle.floats.proofs.RootsBetween.{passed_none, passed_more, passed_all, own_roots}
 use Rattle.floats.proofs.blocks.all_ones.Goals as goal
 

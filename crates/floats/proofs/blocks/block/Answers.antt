@@ -6,5 +6,4 @@ returns-then-all_ones c = c.all_ones.ensures c.if-all_ones.true
 
 pub put-requires : goal.put-requires
 put-requires c =
-    let got = (c.requires, (c.candidates-found.ensures, c.all_certain.ensures c.if-all_certain.true)) in
-    record { at_in_bounds = got.0; candidates = got.1 }
+    record { at_in_bounds = c.requires; candidates = (c.candidates-found.ensures, c.all_certain.ensures c.if-all_certain.true) }

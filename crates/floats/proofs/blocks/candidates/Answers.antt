@@ -1,5 +1,5 @@
 -- Each turn stores one more. Assumes nothing.
-use Rattle.std.proofs.Common.{◌-◌, ◌≤◌, refl, ◌∙◌, not-suc-le-zero, arith, lit≤, length-set, rules}
+use Rattle.std.proofs.Common.{refl, ◌∙◌, not-suc-le-zero, arith, lit≤, length-set, rules}
 use Rattle.floats.proofs.RootsBetween.{found_more}
 use Rattle.floats.proofs.blocks.candidates.Goals as goal
 

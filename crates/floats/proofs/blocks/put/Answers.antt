@@ -1,5 +1,5 @@
 -- Each turn makes one more root. Assumes nothing.
-use Rattle.std.proofs.Common.{◌-◌, ◌≤◌, sym, ap, ◌∙◌, lit≤, rules}
+use Rattle.std.proofs.Common.{sym, ap, ◌∙◌, lit≤, rules}
 use lib.Ieee.{binary32}
 use Rattle.floats.specs.Root.{sqrt_of}
 use Rattle.floats.proofs.RootsBetween.{roots_still, block_none, block_more, block_all}

@@ -1,5 +1,5 @@
 -- Each turn makes one more root. Assumes nothing.
-use Rattle.std.proofs.Common.{◌-◌, le_refl, rules}
+use Rattle.std.proofs.Common.{le_refl, rules}
 use Rattle.floats.proofs.RootsBetween.{roots_none, roots_more, roots_end}
 use Rattle.floats.proofs.blocks.rest.Goals as goal
 

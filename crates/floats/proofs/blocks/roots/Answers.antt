@@ -1,5 +1,5 @@
 -- Whole blocks, then the rest one by one. Assumes nothing.
-use Rattle.std.proofs.Common.{◌+◌, ◌-◌, ◌≤◌, length, arith, rules}
+use Rattle.std.proofs.Common.{◌+◌, ◌≤◌, length, arith, rules}
 use Rattle.floats.proofs.RootsBetween.{roots_none, roots_joined, roots_done}
 use Rattle.floats.proofs.blocks.roots.Goals as goal
 

@@ -1,5 +1,5 @@
 -- Each turn makes one more root. Assumes nothing.
-use Rattle.std.proofs.Common.{◌-◌, ◌≤◌, lit≤, rules}
+use Rattle.std.proofs.Common.{lit≤, rules}
 use Rattle.floats.proofs.RootsBetween.{still_candidate, block_none, block_more, block_all}
 use Rattle.floats.proofs.blocks.settle.Goals as goal
 

@@ -1,5 +1,5 @@
 -- `narrowed` meets its contract: below 2 ^ -126 by a sum, from there on by its digits. Assumes nothing.
-use Rattle.std.proofs.Common.{◌≡◌, ℕ, ◌-◌, ◌^◌, ◌<◌, ◌≤◌, not, T, refl, subst, le_trans, le_refl, lt_of_lt_of_le, lt_of_le_of_lt, lit<, lit≤}
+use Rattle.std.proofs.Common.{◌≡◌, ℕ, ◌-◌, ◌<◌, ◌≤◌, not, T, refl, subst, le_trans, le_refl, lt_of_lt_of_le, lt_of_le_of_lt, lit<, lit≤}
 use Rattle.floats.proofs.NarrowedSize.{small_value, no_nan, small_some, small_few, small_pattern, big_pattern, big_small, top_pattern, lift}
 use Rattle.floats.proofs.RootPatterns.{pattern_ok}
 use lib.Ieee.{Float, binary32, binary64, add, is_nan, of_bits, to_bits}
@@ -39,13 +39,13 @@ overflow_cast-result c = record { fits = lt_of_le_of_lt (summed c.args.b c.if-b-
 pub returns-then-b-lt4039728865751334912 : goal.returns-then-b-lt4039728865751334912
 returns-then-b-lt4039728865751334912 c =
     let s = summed c.args.b c.if-b-lt4039728865751334912.true in
-    (s.is, le_trans s.few (lit≤ tt))
+    record { is = s.is; small = le_trans s.few (lit≤ tt) }
 
 pub returns-then-b-lt5183643171103440896 : goal.returns-then-b-lt5183643171103440896
 returns-then-b-lt5183643171103440896 c =
     let a = c.args.b in
     let hi = lt_of_lt_of_le c.if-b-lt5183643171103440896.true (lit≤ tt) in
-    (big_pattern a c.if-b-lt4039728865751334912.false hi c.if-b-lt5183643171103440896.true, big_small a c.if-b-lt4039728865751334912.false hi c.if-b-lt5183643171103440896.true)
+    record { is = big_pattern a c.if-b-lt4039728865751334912.false hi c.if-b-lt5183643171103440896.true; small = big_small a c.if-b-lt4039728865751334912.false hi c.if-b-lt5183643171103440896.true }
 
 pub returns-else-b-lt5183643171103440896 : goal.returns-else-b-lt5183643171103440896
 returns-else-b-lt5183643171103440896 c = record { is = top_pattern c.args.b c.requires c.if-b-lt5183643171103440896.false; small = le_refl 2139095040 }

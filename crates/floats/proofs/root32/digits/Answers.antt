@@ -1,5 +1,5 @@
 -- `digits` meets its contract: p is the number under the root, times a power of four. Assumes nothing.
-use Rattle.std.proofs.Common.{◌-◌, arith}
+use Rattle.std.proofs.Common.{arith}
 use Rattle.floats.proofs.RoundedRoot.{near_high}
 use Rattle.floats.proofs.RootCorrected.{doubled_some, scaled_start, scaled_more, scaled_some, scaled_few, scaled_root}
 use Rattle.floats.proofs.root32.digits.Goals as goal

@@ -1,5 +1,5 @@
 -- `raised` meets its contract: below n there is room for one more. Assumes nothing.
-use Rattle.std.proofs.Common.{◌-◌, arith}
+use Rattle.std.proofs.Common.{arith}
 use Rattle.floats.proofs.RootCorrected.{square_most, more_left}
 use Rattle.floats.proofs.root32.raised.Goals as goal
 

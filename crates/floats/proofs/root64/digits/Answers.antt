@@ -1,5 +1,5 @@
 -- Each turn finds one more digit, of a number four times as large.
-use Rattle.std.proofs.Common.{◌-◌, arith}
+use Rattle.std.proofs.Common.{arith}
 use Rattle.floats.proofs.RootByDigits.{found_whole, found_more, found_some, few_digits, rounded_down, rounded_up}
 use Rattle.floats.proofs.root64.digits.Goals as goal
 

@@ -1,5 +1,5 @@
 -- The root lies from r on, below r + gap.
-use Rattle.std.proofs.Common.{◌+◌, ◌-◌, ◌*◌, ◌<◌, ◌≤◌}
+use Rattle.std.proofs.Common.{◌+◌, ◌*◌, ◌<◌, ◌≤◌}
 use Rattle.floats.proofs.root64.whole_root.Given as goal
 
 abbrev pub invariant-loop-gap : goal.invariant-loop-gap

@@ -1,5 +1,4 @@
 -- `round_to_i32` meets its contract: the rounded size, with the sign of x, cast exactly. Assumes nothing.
--- the size, rounded, and what is known of it where the two calls are done
 use Rattle.std.proofs.Common.{◌≡◌, ℕ, ◌<◌, ◌≤◌, Bool, true, false, not, T, ℤ, pos, neg_ℤ, sym, ◌∙◌, subst, w32, to_z, of_z}
 use Rattle.floats.proofs.Tests.{T_true, T_false}
 use Rattle.floats.proofs.Fractions.{nought}
@@ -12,8 +11,9 @@ use Rattle.floats.specs.Round.{away, round_to}
 use Rattle.floats.specs.Inner.Steps.{signed_by}
 use Rattle.floats.proofs.round.round_to_i32.Goals as goal
 
-abbrev size : tie.After-whole-away → ℕ
-size c = away (num c.magnitude.result) (den c.magnitude.result)
+-- the size r, rounded
+abbrev size : Float → ℕ
+size r = away (num r) (den r)
 
 back : (v : Float) (z : ℤ) → to_signed 31 v ≡ z → to_z w32 (of_z w32 (to_signed 31 v)) ≡ z
 back v z e = to_z-of_z w32 (to_signed 31 v) (record { sfits = to_signed_in 31 v }) ∙ e
@@ -24,40 +24,40 @@ whole_away-r-requires c = c.magnitude.ensures.inside
 pub float_to_int-result : goal.float_to_int-result
 unfolding of_bits
 float_to_int-result c =
-    let few : size c ≤ 2147483648 = size_most c.magnitude.result c.magnitude.ensures.inside in
-    let minus : Casts (sub binary64 nought c.whole_away-r.result) (neg_ℤ (pos (size c))) = subst (λ (v : Float). Casts (sub binary64 nought v) (neg_ℤ (pos (size c)))) (sym c.whole_away-r.ensures) (minus_cast (size c) few) in
+    let few : size c.magnitude.result ≤ 2147483648 = size_most c.magnitude.result c.magnitude.ensures.inside in
+    let minus : Casts (sub binary64 nought c.whole_away-r.result) (neg_ℤ (pos (size c.magnitude.result))) = subst (λ (v : Float). Casts (sub binary64 nought v) (neg_ℤ (pos (size c.magnitude.result)))) (sym c.whole_away-r.ensures) (minus_cast (size c.magnitude.result) few) in
     minus.0
 
 pub float_to_int-result-then-r : goal.float_to_int-result-then-r
 unfolding of_bits
 float_to_int-result-then-r c =
-    let few : size c ≤ 2147483648 = size_most c.magnitude.result c.magnitude.ensures.inside in
-    let plus : T (lt c.whole_away-r.result most) → Casts c.whole_away-r.result (pos (size c)) × (size c < 2147483647) = λ l. let s = below_most (size c) few (subst (λ (v : Float). T (lt v most)) c.whole_away-r.ensures l) in
-    (subst (λ (v : Float). Casts v (pos (size c))) (sym c.whole_away-r.ensures) (plus_cast (size c) s), s) in
+    let few : size c.magnitude.result ≤ 2147483648 = size_most c.magnitude.result c.magnitude.ensures.inside in
+    let plus : T (lt c.whole_away-r.result most) → Casts c.whole_away-r.result (pos (size c.magnitude.result)) × (size c.magnitude.result < 2147483647) = λ l. let s = below_most (size c.magnitude.result) few (subst (λ (v : Float). T (lt v most)) c.whole_away-r.ensures l) in
+    (subst (λ (v : Float). Casts v (pos (size c.magnitude.result))) (sym c.whole_away-r.ensures) (plus_cast (size c.magnitude.result) s), s) in
     (plus (T_true c.if-r.true)).0.0
 
 pub returns-then-x : goal.returns-then-x
 unfolding of_bits
 returns-then-x c =
-    let few : size c ≤ 2147483648 = size_most c.magnitude.result c.magnitude.ensures.inside in
-    let minus : Casts (sub binary64 nought c.whole_away-r.result) (neg_ℤ (pos (size c))) = subst (λ (v : Float). Casts (sub binary64 nought v) (neg_ℤ (pos (size c)))) (sym c.whole_away-r.ensures) (minus_cast (size c) few) in
-    let signed : (s : Bool) → lt c.args.x nought ≡ s → signed_by s (size c) ≡ round_to 31 c.args.x = λ s e. subst (λ (b : Bool). signed_by b (size c) ≡ round_to 31 c.args.x) e c.magnitude.ensures.same in
-    back (sub binary64 nought c.whole_away-r.result) (neg_ℤ (pos (size c))) minus.1 ∙ by_minus (size c) few ∙ signed true c.if-x.true
+    let few : size c.magnitude.result ≤ 2147483648 = size_most c.magnitude.result c.magnitude.ensures.inside in
+    let minus : Casts (sub binary64 nought c.whole_away-r.result) (neg_ℤ (pos (size c.magnitude.result))) = subst (λ (v : Float). Casts (sub binary64 nought v) (neg_ℤ (pos (size c.magnitude.result)))) (sym c.whole_away-r.ensures) (minus_cast (size c.magnitude.result) few) in
+    let signed : (s : Bool) → lt c.args.x nought ≡ s → signed_by s (size c.magnitude.result) ≡ round_to 31 c.args.x = λ s e. subst (λ (b : Bool). signed_by b (size c.magnitude.result) ≡ round_to 31 c.args.x) e c.magnitude.ensures.same in
+    back (sub binary64 nought c.whole_away-r.result) (neg_ℤ (pos (size c.magnitude.result))) minus.1 ∙ by_minus (size c.magnitude.result) few ∙ signed true c.if-x.true
 
 pub returns-then-r : goal.returns-then-r
 unfolding of_bits
 returns-then-r c =
-    let few : size c ≤ 2147483648 = size_most c.magnitude.result c.magnitude.ensures.inside in
-    let plus : T (lt c.whole_away-r.result most) → Casts c.whole_away-r.result (pos (size c)) × (size c < 2147483647) = λ l. let s = below_most (size c) few (subst (λ (v : Float). T (lt v most)) c.whole_away-r.ensures l) in
-    (subst (λ (v : Float). Casts v (pos (size c))) (sym c.whole_away-r.ensures) (plus_cast (size c) s), s) in
-    let signed : (s : Bool) → lt c.args.x nought ≡ s → signed_by s (size c) ≡ round_to 31 c.args.x = λ s e. subst (λ (b : Bool). signed_by b (size c) ≡ round_to 31 c.args.x) e c.magnitude.ensures.same in
+    let few : size c.magnitude.result ≤ 2147483648 = size_most c.magnitude.result c.magnitude.ensures.inside in
+    let plus : T (lt c.whole_away-r.result most) → Casts c.whole_away-r.result (pos (size c.magnitude.result)) × (size c.magnitude.result < 2147483647) = λ l. let s = below_most (size c.magnitude.result) few (subst (λ (v : Float). T (lt v most)) c.whole_away-r.ensures l) in
+    (subst (λ (v : Float). Casts v (pos (size c.magnitude.result))) (sym c.whole_away-r.ensures) (plus_cast (size c.magnitude.result) s), s) in
+    let signed : (s : Bool) → lt c.args.x nought ≡ s → signed_by s (size c.magnitude.result) ≡ round_to 31 c.args.x = λ s e. subst (λ (b : Bool). signed_by b (size c.magnitude.result) ≡ round_to 31 c.args.x) e c.magnitude.ensures.same in
     let p = plus (T_true c.if-r.true) in
-    back c.whole_away-r.result (pos (size c)) p.0.1 ∙ by_plus (size c) p.1 ∙ signed false c.if-x.false
+    back c.whole_away-r.result (pos (size c.magnitude.result)) p.0.1 ∙ by_plus (size c.magnitude.result) p.1 ∙ signed false c.if-x.false
 
 pub returns-else-r : goal.returns-else-r
 unfolding of_bits
 returns-else-r c =
-    let few : size c ≤ 2147483648 = size_most c.magnitude.result c.magnitude.ensures.inside in
-    let signed : (s : Bool) → lt c.args.x nought ≡ s → signed_by s (size c) ≡ round_to 31 c.args.x = λ s e. subst (λ (b : Bool). signed_by b (size c) ≡ round_to 31 c.args.x) e c.magnitude.ensures.same in
-    let l = from_most (size c) few (subst (λ (v : Float). T (not (lt v most))) c.whole_away-r.ensures (T_false c.if-r.false)) in
-    by_most (size c) l ∙ signed false c.if-x.false
+    let few : size c.magnitude.result ≤ 2147483648 = size_most c.magnitude.result c.magnitude.ensures.inside in
+    let signed : (s : Bool) → lt c.args.x nought ≡ s → signed_by s (size c.magnitude.result) ≡ round_to 31 c.args.x = λ s e. subst (λ (b : Bool). signed_by b (size c.magnitude.result) ≡ round_to 31 c.args.x) e c.magnitude.ensures.same in
+    let l = from_most (size c.magnitude.result) few (subst (λ (v : Float). T (not (lt v most))) c.whole_away-r.ensures (T_false c.if-r.false)) in
+    by_most (size c.magnitude.result) l ∙ signed false c.if-x.false

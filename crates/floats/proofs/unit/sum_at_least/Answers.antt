@@ -11,7 +11,7 @@ returns-then-least-mid c =
     let held1 : T (fits binary64 c.args.lo) = subst T (sym c.well_formed.1.0.1) tt in
     let held2 : T (fits binary64 c.args.least) = subst T (sym c.well_formed.1.1.0.1) tt in
     let a = c.args in
-    mid_reaches a.mid a.lo a.least held0 held1 held2 c.requires.fact_1 c.requires.fact_2.0 c.requires.fact_2.1.0 c.requires.fact_2.1.1.0 (T_true c.if-least-mid.true)
+    mid_reaches a.mid a.lo a.least held0 held1 held2 c.requires.mid_plain c.requires.lo_plain c.requires.least_plain c.requires.falling.0 (T_true c.if-least-mid.true)
 
 pub returns-then-mid-least : goal.returns-then-mid-least
 returns-then-mid-least c =
@@ -19,7 +19,7 @@ returns-then-mid-least c =
     let held1 : T (fits binary64 c.args.lo) = subst T (sym c.well_formed.1.0.1) tt in
     let held2 : T (fits binary64 c.args.least) = subst T (sym c.well_formed.1.1.0.1) tt in
     let a = c.args in
-    twice_mid_below a.mid a.lo a.least held0 held1 held2 c.requires.fact_1 c.requires.fact_2.0 c.requires.fact_2.1.0 c.requires.fact_2.1.1.0 c.requires.fact_2.1.1.1 (T_true c.if-mid-least.true)
+    twice_mid_below a.mid a.lo a.least held0 held1 held2 c.requires.mid_plain c.requires.lo_plain c.requires.least_plain c.requires.falling.0 c.requires.falling.1 (T_true c.if-mid-least.true)
 
 pub returns-else-mid-least : goal.returns-else-mid-least
 returns-else-mid-least c =
@@ -27,4 +27,4 @@ returns-else-mid-least c =
     let held1 : T (fits binary64 c.args.lo) = subst T (sym c.well_formed.1.0.1) tt in
     let held2 : T (fits binary64 c.args.least) = subst T (sym c.well_formed.1.1.0.1) tt in
     let a = c.args in
-    least_tested a.mid a.lo a.least held0 held1 held2 c.requires.fact_1 c.requires.fact_2.0 c.requires.fact_2.1.0 c.requires.fact_2.1.1.0 c.requires.fact_2.1.1.1 (T_false c.if-least-mid.false) (T_false c.if-mid-least.false)
+    least_tested a.mid a.lo a.least held0 held1 held2 c.requires.mid_plain c.requires.lo_plain c.requires.least_plain c.requires.falling.0 c.requires.falling.1 (T_false c.if-least-mid.false) (T_false c.if-mid-least.false)

@@ -11,7 +11,7 @@ returns-then-mid-most c =
     let held1 : T (fits binary64 c.args.lo) = subst T (sym c.well_formed.1.0.1) tt in
     let held2 : T (fits binary64 c.args.most) = subst T (sym c.well_formed.1.1.0.1) tt in
     let a = c.args in
-    most_tested a.mid a.lo a.most held0 held1 held2 c.requires.fact_1 c.requires.fact_2.0 c.requires.fact_2.1.0 c.requires.fact_2.1.1 (T_true c.if-mid-most.true)
+    most_tested a.mid a.lo a.most held0 held1 held2 c.requires.mid_plain c.requires.lo_plain c.requires.most_plain c.requires.falling (T_true c.if-mid-most.true)
 
 pub returns-else-mid-most : goal.returns-else-mid-most
 returns-else-mid-most c =
@@ -19,4 +19,4 @@ returns-else-mid-most c =
     let held1 : T (fits binary64 c.args.lo) = subst T (sym c.well_formed.1.0.1) tt in
     let held2 : T (fits binary64 c.args.most) = subst T (sym c.well_formed.1.1.0.1) tt in
     let a = c.args in
-    mid_above a.mid a.lo a.most held0 held1 held2 c.requires.fact_1 c.requires.fact_2.0 c.requires.fact_2.1.0 c.requires.fact_2.1.1 (T_false c.if-mid-most.false)
+    mid_above a.mid a.lo a.most held0 held1 held2 c.requires.mid_plain c.requires.lo_plain c.requires.most_plain c.requires.falling (T_false c.if-mid-most.false)

@@ -1,6 +1,5 @@
 -- `unit_triple` meets its contract: a number that is not finite makes the conjunction false, and else the exact test is left. Assumes nothing.
 use Rattle.std.proofs.Common.{◌≡◌, ◌+◌, ◌^◌, Bool, true, false, ◌&&◌, sym, refl, ap, ◌∙◌}
-use borrow.Author.Tests.{not-true, not-false}
 use lib.Ieee.{Float}
 use lib.Ieee.Scale.{finite}
 use Rattle.floats.specs.Unit.{squared, about_one, unit_triple}
@@ -18,32 +17,32 @@ answer x y z p q r a b c = ap (λ (s : Bool). s && finite y && finite z && Test 
 pub returns-then-not-is_finite : goal.returns-then-not-is_finite
 returns-then-not-is_finite c =
     let a = c.args in
-    sym (answer a.x a.y a.z false (finite a.y) (finite a.z) (sym c.is_finite.ensures ∙ not-true _ c.if-not-is_finite.true) refl refl)
+    sym (answer a.x a.y a.z false (finite a.y) (finite a.z) (sym c.is_finite.ensures ∙ c.if-not-is_finite.true) refl refl)
 
 pub returns-then-not-is_finite-2 : goal.returns-then-not-is_finite-2
 returns-then-not-is_finite-2 c =
-    let first : finite c.args.x ≡ true = sym c.is_finite.ensures ∙ not-false _ c.if-not-is_finite.false in
+    let first : finite c.args.x ≡ true = sym c.is_finite.ensures ∙ c.if-not-is_finite.false in
     let a = c.args in
-    sym (answer a.x a.y a.z true false (finite a.z) first (sym c.is_finite-2.ensures ∙ not-true _ c.if-not-is_finite-2.true) refl)
+    sym (answer a.x a.y a.z true false (finite a.z) first (sym c.is_finite-2.ensures ∙ c.if-not-is_finite-2.true) refl)
 
 pub returns-then-not-is_finite-3 : goal.returns-then-not-is_finite-3
 returns-then-not-is_finite-3 c =
-    let first : finite c.args.x ≡ true = sym c.is_finite.ensures ∙ not-false _ c.if-not-is_finite.false in
-    let second : finite c.args.y ≡ true = sym c.is_finite-2.ensures ∙ not-false _ c.if-not-is_finite-2.false in
+    let first : finite c.args.x ≡ true = sym c.is_finite.ensures ∙ c.if-not-is_finite.false in
+    let second : finite c.args.y ≡ true = sym c.is_finite-2.ensures ∙ c.if-not-is_finite-2.false in
     let a = c.args in
-    sym (answer a.x a.y a.z true true false first second (sym c.is_finite-3.ensures ∙ not-true _ c.if-not-is_finite-3.true))
+    sym (answer a.x a.y a.z true true false first second (sym c.is_finite-3.ensures ∙ c.if-not-is_finite-3.true))
 
 pub finite_triple-requires : goal.finite_triple-requires
 finite_triple-requires c =
-    let first : finite c.args.x ≡ true = sym c.is_finite.ensures ∙ not-false _ c.if-not-is_finite.false in
-    let second : finite c.args.y ≡ true = sym c.is_finite-2.ensures ∙ not-false _ c.if-not-is_finite-2.false in
-    let third : finite c.args.z ≡ true = sym c.is_finite-3.ensures ∙ not-false _ c.if-not-is_finite-3.false in
-    (T_true first, (T_true second, T_true third))
+    let first : finite c.args.x ≡ true = sym c.is_finite.ensures ∙ c.if-not-is_finite.false in
+    let second : finite c.args.y ≡ true = sym c.is_finite-2.ensures ∙ c.if-not-is_finite-2.false in
+    let third : finite c.args.z ≡ true = sym c.is_finite-3.ensures ∙ c.if-not-is_finite-3.false in
+    record { x_finite = T_true first; y_finite = T_true second; z_finite = T_true third }
 
 pub returns : goal.returns
 returns c =
-    let first : finite c.args.x ≡ true = sym c.is_finite.ensures ∙ not-false _ c.if-not-is_finite.false in
-    let second : finite c.args.y ≡ true = sym c.is_finite-2.ensures ∙ not-false _ c.if-not-is_finite-2.false in
-    let third : finite c.args.z ≡ true = sym c.is_finite-3.ensures ∙ not-false _ c.if-not-is_finite-3.false in
+    let first : finite c.args.x ≡ true = sym c.is_finite.ensures ∙ c.if-not-is_finite.false in
+    let second : finite c.args.y ≡ true = sym c.is_finite-2.ensures ∙ c.if-not-is_finite-2.false in
+    let third : finite c.args.z ≡ true = sym c.is_finite-3.ensures ∙ c.if-not-is_finite-3.false in
     let a = c.args in
     c.finite_triple.ensures ∙ sym (answer a.x a.y a.z true true true first second third)

@@ -11,7 +11,7 @@ pub truncating_f64_to_i64-requires : goal.truncating_f64_to_i64-requires
 unfolding of_bits neg
 truncating_f64_to_i64-requires c =
     let x = c.args.x in
-    (wider_lowest 31 63 x (lit< tt) (T_true c.if-x.true) (T_true c.if-x-2.true), wider_past 31 63 x (lit< tt) (T_true c.if-x-2.true))
+    record { lower_bound = wider_lowest 31 63 x (lit< tt) (T_true c.if-x.true) (T_true c.if-x-2.true); upper_bound = wider_past 31 63 x (lit< tt) (T_true c.if-x-2.true) }
 
 pub overflow_cast-result : goal.overflow_cast-result
 unfolding of_bits neg
@@ -27,7 +27,7 @@ returns-then-x-2 c =
     let cut : to_z w64 (of_z w64 c.truncating_f64_to_i64.result) ≡ to_signed 31 c.args.x = let x = c.args.x in
     let told = c.truncating_f64_to_i64.ensures in
     to_z-of_z w64 _ (subst (SFits w64) (sym told) (record { sfits = to_signed_in 63 x })) ∙ told ∙ inside 31 63 x (lit≤ tt) (T_true c.if-x.true) (T_true c.if-x-2.true) in
-    to_z-of_z w32 _ (cast-result c) ∙ cut
+    to_z-of_z w32 _ (subst (SFits w32) (sym cut) (record { sfits = to_signed_in 31 c.args.x })) ∙ cut
 
 pub returns-else-x-2 : goal.returns-else-x-2
 unfolding of_bits neg
