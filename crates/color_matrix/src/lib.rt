@@ -15,7 +15,7 @@ use pool::Numbers;
 use sheet::{Answer, Refusal};
 
 // What to apply. The twenty numbers of a Matrix stand in a lent pool; HueRotate takes a cosine and a sine.
-#[derive(Drop)]
+#[derive(Clone, Copy)]
 pub enum ColorMatrix {
     Matrix(Numbers),
     Saturate(f32),

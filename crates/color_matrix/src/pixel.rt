@@ -8,7 +8,7 @@ ghost use Rattle.color_matrix.specs.Inner.Pixels.{by_colour_row, ByMatrix, ByCol
 use sheet::pixel::Straight;
 
 // A pixel's channels, each from 0 to 1.
-#[derive(Drop)]
+#[derive(Clone, Copy)]
 pub struct Components {
     pub r: f32,
     pub g: f32,
@@ -17,7 +17,7 @@ pub struct Components {
 }
 
 // One row of a matrix: what each channel counts for, and what is added.
-#[derive(Drop)]
+#[derive(Clone, Copy)]
 pub struct Row {
     pub r: f32,
     pub g: f32,
@@ -27,7 +27,7 @@ pub struct Row {
 }
 
 // One row of a matrix of colours alone.
-#[derive(Drop)]
+#[derive(Clone, Copy)]
 pub struct ColourRow {
     pub r: f32,
     pub g: f32,

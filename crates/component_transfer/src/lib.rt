@@ -13,7 +13,7 @@ use sheet::{Answer, Refusal};
 
 // What to do with a channel. The entries of a Table or a Discrete stand in a lent pool; Linear takes a slope
 // and an intercept. Identity and an empty table leave the channel alone.
-#[derive(Drop)]
+#[derive(Clone, Copy)]
 pub enum TransferFunction {
     Identity,
     Table(Numbers),

@@ -7,7 +7,7 @@ ghost use Rattle.composite.specs.Inner.Pixels.{WithAlpha, Composed};
 use sheet::pixel::Premultiplied;
 
 // What each product counts for.
-#[derive(Drop)]
+#[derive(Clone, Copy)]
 pub struct Factors {
     pub k1: f32,
     pub k2: f32,

@@ -7,7 +7,7 @@ ghost use Rattle.convolve_matrix.specs.Edges as Edges;
 ghost use Rattle.convolve_matrix.specs.Inner.Rows as Rows;
 
 // What stands for the pixels beyond the edges.
-#[derive(Drop)]
+#[derive(Clone, Copy)]
 pub enum EdgeMode {
     None,
     Duplicate,
@@ -15,7 +15,7 @@ pub enum EdgeMode {
 }
 
 // The places that are read, from one up to another.
-#[derive(Drop)]
+#[derive(Clone, Copy)]
 pub struct Span {
     pub from: usize,
     pub to: usize,

@@ -15,7 +15,7 @@ use pool::Numbers;
 use sheet::{Answer, Refusal};
 
 // What to apply. The kernel's numbers, row by row, stand in a lent pool.
-#[derive(Drop)]
+#[derive(Clone, Copy)]
 pub struct ConvolveMatrix {
     pub columns: u32,
     pub rows: u32,

@@ -11,7 +11,7 @@ ghost use Rattle.displacement_map.specs.DisplacementMap.{in_canvas, in_scale, sc
 use sheet::{Answer, Refusal};
 
 // A channel of the map, which moves columns or rows.
-#[derive(Drop)]
+#[derive(Clone, Copy)]
 pub enum ColorChannel {
     R,
     G,

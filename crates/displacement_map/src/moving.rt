@@ -54,7 +54,7 @@ fn place(i: usize, shifts: &[f32; 256], selector: ColorChannel, pixel: Straight)
 }
 
 // A pixel's column and row.
-#[derive(Drop)]
+#[derive(Clone, Copy)]
 struct Position {
     x: usize,
     y: usize,

@@ -46,7 +46,7 @@ pub fn run(
 }
 
 // What `reaches` answers: a run's own answer, and on Done the yes or no; after a refusal it is no.
-#[derive(Drop)]
+#[derive(Clone, Copy)]
 pub struct ReachAnswer {
     pub answer: Answer,
     pub yes: bool,

@@ -5,21 +5,21 @@ ghost use Rattle.lighting.specs.Inner.Rays.{from_surface, ray_vector};
 use crate::vector::Vector3;
 
 // A distant light has a direction, a point has a place.
-#[derive(Drop)]
+#[derive(Clone, Copy)]
 pub enum LightSource {
     Distant(f32, f32, f32),
     Point(f32, f32, f32),
 }
 
 // How the surface throws light back.
-#[derive(Drop)]
+#[derive(Clone, Copy)]
 pub enum Reflection {
     Diffuse,
     Specular,
 }
 
 // What a pixel is lit along, in the definitions: the light vector, or the half vector with its length, unless that is near zero.
-#[derive(Drop)]
+#[derive(Clone, Copy)]
 pub enum Ray {
     Light(Vector3),
     Half(Vector3, f32),

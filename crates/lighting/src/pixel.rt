@@ -10,7 +10,7 @@ use sheet::pixel::{Pixel, Premultiplied, Straight};
 use surface::Normal;
 
 // A light's colour.
-#[derive(Drop)]
+#[derive(Clone, Copy)]
 pub struct Color {
     pub red: u8,
     pub green: u8,
@@ -18,7 +18,7 @@ pub struct Color {
 }
 
 // All that a sheet is lit by.
-#[derive(Drop)]
+#[derive(Clone, Copy)]
 pub struct Lighting {
     pub reflection: Reflection,
     pub light: LightSource,

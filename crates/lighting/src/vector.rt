@@ -4,7 +4,7 @@ ghost use Rattle.floats.specs.Order.{near_zero};
 ghost use Rattle.lighting.specs.Vectors as Vectors;
 ghost use Rattle.lighting.specs.Inner.Rays.{unit_by};
 
-#[derive(Drop)]
+#[derive(Clone, Copy)]
 pub struct Vector3 {
     pub x: f32,
     pub y: f32,
@@ -12,7 +12,7 @@ pub struct Vector3 {
 }
 
 // A vector divided by its length, or none where that is near zero.
-#[derive(Drop)]
+#[derive(Clone, Copy)]
 pub enum Normalized {
     Unit(Vector3),
     Short,

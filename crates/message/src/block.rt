@@ -15,7 +15,7 @@ pub const BLOCK: usize = 16;
 pub const ANY: u32 = 4294967295;
 
 // A row of numbers, and the place after it; or that of the first that is wrong.
-#[derive(Drop)]
+#[derive(Clone, Copy)]
 pub struct Block {
     pub words: [u32; BLOCK],
     pub place: Place,

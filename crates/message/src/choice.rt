@@ -15,7 +15,7 @@ use pool::Numbers;
 const LIST: u32 = 3;
 
 // A kind that was read, with what it calls for, how many numbers are in the pool then, and the place after it.
-#[derive(Drop)]
+#[derive(Clone, Copy)]
 pub struct Choice {
     pub kind: u32,
     pub first: f32,

@@ -23,7 +23,7 @@ pub use writing::{Writing, write};
 
 // What a reading or a writing answers. A malformed message comes with the offset of its first wrong number, a range outside
 // the pool with the index of its step.
-#[derive(Drop)]
+#[derive(Clone, Copy)]
 pub enum MessageAnswer {
     Done,
     Shape(u8),
@@ -72,14 +72,14 @@ pub fn answer_offset(answer: MessageAnswer) -> u64
 }
 
 // The place after what was read; or that of the wrong number.
-#[derive(Drop)]
+#[derive(Clone, Copy)]
 pub enum Place {
     At(usize),
     Wrong(usize),
 }
 
 // A step that was read, how many numbers are in the pool then, and the place after it.
-#[derive(Drop)]
+#[derive(Clone, Copy)]
 pub struct StepRead {
     pub step: Step,
     pub used: usize,

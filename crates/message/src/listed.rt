@@ -14,7 +14,7 @@ use number::float_of;
 use recipe::{Step, Work};
 
 // Two transfer functions that were read, how many numbers are in the pool then, and the place after them.
-#[derive(Drop)]
+#[derive(Clone, Copy)]
 pub struct PairRead {
     pub first: TransferFunction,
     pub second: TransferFunction,
@@ -23,7 +23,7 @@ pub struct PairRead {
 }
 
 // The transfer functions of the four channels, likewise.
-#[derive(Drop)]
+#[derive(Clone, Copy)]
 pub struct FunctionsRead {
     pub red: TransferFunction,
     pub green: TransferFunction,

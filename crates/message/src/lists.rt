@@ -11,7 +11,7 @@ use number::{Number, bits_of, float_of, read_number, write_number};
 use pool::Numbers;
 
 // Numbers that were read: their range of the pool, how many are in the pool then, and the place after them.
-#[derive(Drop)]
+#[derive(Clone, Copy)]
 pub struct NumbersRead {
     pub numbers: Numbers,
     pub used: usize,

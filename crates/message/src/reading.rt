@@ -16,14 +16,14 @@ use number::{Number, read_number, reader};
 use recipe::{Recipe, STEP_LIMIT, Step};
 
 // What a reading gives: its answer, and the recipe, which has no steps where the message is refused.
-#[derive(Drop)]
+#[derive(Clone, Copy)]
 pub struct Reading {
     pub answer: MessageAnswer,
     pub recipe: Recipe,
 }
 
 // Steps that were read, the first sixteen of them, how many numbers are in the pool then, and the place after them.
-#[derive(Drop)]
+#[derive(Clone, Copy)]
 pub struct StepsRead {
     pub steps: [Step; STEP_LIMIT],
     pub used: usize,

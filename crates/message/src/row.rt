@@ -13,14 +13,14 @@ use recipe::Work;
 use turbulence::Turbulence;
 
 // The first `count` numbers are written.
-#[derive(Drop)]
+#[derive(Clone, Copy)]
 pub struct Row {
     pub words: [u32; BLOCK],
     pub count: usize,
 }
 
 // A light source by the number of its kind.
-#[derive(Drop)]
+#[derive(Clone, Copy)]
 pub struct Light {
     pub kind: u32,
     pub x: f32,

@@ -12,7 +12,7 @@ use number::write_number;
 use recipe::{Recipe, STEP_LIMIT};
 
 // What a writing gives: its answer, and how many bytes the message has; none where it is refused.
-#[derive(Drop)]
+#[derive(Clone, Copy)]
 pub struct Writing {
     pub answer: MessageAnswer,
     pub length: usize,

@@ -1,7 +1,7 @@
 ghost use Rattle.std.specs.Prelude.{◌≡◌};
 ghost use Rattle.morphology.specs.Extremum.{more_extreme};
 
-#[derive(Drop)]
+#[derive(Clone, Copy)]
 pub enum MorphologyOperator {
     Dilate,
     Erode,

@@ -12,7 +12,7 @@ ghost use Rattle.number.specs.Number.{number_at, number_bytes, Put};
 pub use values::{bits_of, bits_of_seed, double_of, float_of, high_half, low_half, seed_of};
 
 // What stands at a place of a message.
-#[derive(Drop)]
+#[derive(Clone, Copy)]
 pub enum Number {
     // A number, and the place after it.
     Value(u32, usize),

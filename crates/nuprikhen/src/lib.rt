@@ -20,7 +20,7 @@ use sheet::Answer;
 
 // What a call answers: docs/LAW.md's number, 0 when it is done, and the index of the step.
 #[repr(C)]
-#[derive(Drop)]
+#[derive(Clone, Copy)]
 pub struct nup_answer {
     pub number: u8,
     pub step: u8,

@@ -10,7 +10,7 @@ use sheet::{Answer, Refusal};
 const NUMBER_LIMIT: f32 = 65536.0;
 
 // A range of the pool, which may lie anywhere.
-#[derive(Drop)]
+#[derive(Clone, Copy)]
 pub struct Numbers {
     pub start: u32,
     pub count: u32,

@@ -6,7 +6,7 @@ ghost use Rattle.recipe.specs.Tests.{input_ok, inputs_ok, slots_ok};
 use crate::{Inputs, Kind, Work};
 
 // What a slot holds: nothing yet, or a sheet of a kind.
-#[derive(Drop)]
+#[derive(Clone, Copy)]
 pub enum Content {
     Nothing,
     Straight,
@@ -14,7 +14,7 @@ pub enum Content {
 }
 
 // What the slots 0 to 3 hold.
-#[derive(Drop)]
+#[derive(Clone, Copy)]
 pub struct Contents {
     pub zero: Content,
     pub one: Content,

@@ -17,14 +17,14 @@ pub use tests::run_answer;
 use turbulence::Turbulence;
 
 // How the colours of a sheet are given.
-#[derive(Drop)]
+#[derive(Clone, Copy)]
 pub enum Kind {
     Straight,
     Premultiplied,
 }
 
 // What a step works out: the slots that it reads, whose numbers may be anything, then resvg's parameters.
-#[derive(Drop)]
+#[derive(Clone, Copy)]
 pub enum Work {
     Morphology(u32, MorphologyOperator, f32, f32),
     Arithmetic(u32, u32, f32, f32, f32, f32),
@@ -38,7 +38,7 @@ pub enum Work {
 }
 
 // The slots that a step's work reads.
-#[derive(Drop)]
+#[derive(Clone, Copy)]
 pub enum Inputs {
     None,
     One(u32),
@@ -61,7 +61,7 @@ pub fn inputs_of(work: Work) -> Inputs
     }
 }
 
-#[derive(Drop)]
+#[derive(Clone, Copy)]
 pub struct Step {
     pub work: Work,
     pub output: u32,
@@ -80,7 +80,7 @@ impl Step {
 pub const STEP_LIMIT: usize = 16;
 
 // The first `count` steps are run; any count may be given.
-#[derive(Drop)]
+#[derive(Clone, Copy)]
 pub struct Recipe {
     pub steps: [Step; STEP_LIMIT],
     pub count: usize,

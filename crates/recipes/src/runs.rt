@@ -10,7 +10,7 @@ use stored::sheets::Stored;
 use stored::{sheets, words};
 
 // A run: its size and kind, and where its message and its sheets stand.
-#[derive(Drop)]
+#[derive(Clone, Copy)]
 pub struct Run {
     pub size: Size,
     pub kind: Kind,
@@ -20,7 +20,7 @@ pub struct Run {
 }
 
 // The five sheets, and where the answer stands between their bytes before the run and after it.
-#[derive(Drop)]
+#[derive(Clone, Copy)]
 pub struct Sheets {
     pub source: Stored,
     pub slot1: Stored,

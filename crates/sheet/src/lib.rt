@@ -10,7 +10,7 @@ ghost use Rattle.sheet.specs.Tabulate.{zeros, copied};
 ghost use Rattle.sheet.specs.Inner.Strips.{strip_from};
 
 // Why a call is turned away: docs/LAW.md's numbers 1 to 8, in order.
-#[derive(Drop)]
+#[derive(Clone, Copy)]
 pub enum Refusal {
     Size,
     Length,
@@ -23,14 +23,14 @@ pub enum Refusal {
 }
 
 // What a call answers: a refusal comes with the index of the step, which is 0 in a single call.
-#[derive(Drop)]
+#[derive(Clone, Copy)]
 pub enum Answer {
     Done,
     Refused(Refusal, u8),
 }
 
 // The sides of a sheet, in pixels.
-#[derive(Drop)]
+#[derive(Clone, Copy)]
 pub struct Size {
     pub width: usize,
     pub height: usize,

@@ -4,15 +4,15 @@ ghost use Rattle.std.specs.Prelude.{◌≡◌, ◌+◌, ◌≤◌, ◌<◌, leng
 ghost use Rattle.sheet.specs.Pixel.{channel, Channels, PixelAt, set_channels, set_pixel};
 
 // A pixel's number whose colours are not multiplied by its alpha.
-#[derive(Drop)]
+#[derive(Clone, Copy)]
 pub struct Straight(pub u32);
 
 // A pixel's number whose colours are multiplied by its alpha.
-#[derive(Drop)]
+#[derive(Clone, Copy)]
 pub struct Premultiplied(pub u32);
 
 // A pixel's number of either kind: it is moved, and its channels are not looked at.
-#[derive(Drop)]
+#[derive(Clone, Copy)]
 pub struct Pixel(pub u32);
 
 impl Straight {

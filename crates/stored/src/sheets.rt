@@ -5,7 +5,7 @@ ghost use Rattle.io.specs.Counts.{IsPrefixLen};
 use crate::words;
 
 // Where the sheet's bytes stand in the list, before the call and after it, and where the latter end.
-#[derive(Drop)]
+#[derive(Clone, Copy)]
 pub struct Stored {
     pub before: usize,
     pub after: usize,
@@ -14,7 +14,7 @@ pub struct Stored {
 }
 
 // The bytes of a sheet, which stand at `at`, and where they end.
-#[derive(Drop)]
+#[derive(Clone, Copy)]
 pub struct Span {
     pub at: usize,
     pub length: usize,

@@ -5,7 +5,7 @@ ghost use Rattle.stored.specs.Tally as Tallies;
 
 use libc::STDOUT_FILENO;
 
-#[derive(Drop)]
+#[derive(Clone, Copy)]
 pub struct Tally {
     pub cases: u64,
     pub differences: u64,

@@ -16,7 +16,7 @@ const FACTOR_1_4: f32 = 1.0 / 4.0;
 const FACTOR_2_3: f32 = 2.0 / 3.0;
 
 // The leans along x and y, turned round, and what each counts for.
-#[derive(Drop)]
+#[derive(Clone, Copy)]
 pub struct Normal {
     pub fx: f32,
     pub fy: f32,
@@ -25,7 +25,7 @@ pub struct Normal {
 }
 
 // A pixel's place in its row or its column, whose pixels lie `step` bytes apart.
-#[derive(Drop)]
+#[derive(Clone, Copy)]
 pub struct Line {
     pub at: usize,
     pub count: usize,
@@ -33,7 +33,7 @@ pub struct Line {
 }
 
 // Columns of a sheet of these sides, side by side: `count` of them, from column `left` on.
-#[derive(Drop)]
+#[derive(Clone, Copy)]
 pub struct Strip {
     pub width: usize,
     pub height: usize,

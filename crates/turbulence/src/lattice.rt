@@ -5,7 +5,7 @@ ghost use Rattle.turbulence.specs.Noise as Noise;
 ghost use Rattle.turbulence.specs.Inner.Places.{Placed};
 
 // A position's cell, and what it is beyond it.
-#[derive(Drop)]
+#[derive(Clone, Copy)]
 pub struct Place {
     pub cell: usize,
     pub fraction: f64,

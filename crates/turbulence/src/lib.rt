@@ -14,7 +14,7 @@ ghost use Rattle.turbulence.specs.Turbulence.{both_finite, both_within, all_fini
 use sheet::{Answer, Refusal};
 
 // What to draw. `offset_x` and `offset_y` are the filter region's offset, `sx` and `sy` the canvas scale.
-#[derive(Drop)]
+#[derive(Clone, Copy)]
 pub struct Turbulence {
     pub offset_x: f64,
     pub offset_y: f64,

@@ -17,7 +17,7 @@ pub const COLUMNS: usize = STRIP * OCTAVE_LIMIT as usize;
 
 // What the four channels share at a point: the gradient numbers of the four corners round it, its place among them and
 // the curves of that.
-#[derive(Drop)]
+#[derive(Clone, Copy)]
 pub struct Point {
     pub b00: usize,
     pub b10: usize,
@@ -105,7 +105,7 @@ fn noise(gx: &[f64; 2056], gy: &[f64; 2056], c: usize, p: Point) -> f64
 }
 
 // A number for each channel.
-#[derive(Drop)]
+#[derive(Clone, Copy)]
 pub struct Channels {
     pub r: f64,
     pub g: f64,
@@ -126,7 +126,7 @@ fn no_sum() -> Channels
 }
 
 // What the pixels of a row share, at each octave: the cell, what lies beyond it, and the curve of that.
-#[derive(Drop)]
+#[derive(Clone, Copy)]
 pub struct Row {
     pub cells: [u8; 8],
     pub fractions: [f64; 8],

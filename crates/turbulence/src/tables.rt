@@ -47,7 +47,7 @@ fn pair_length(u: f64, v: f64) -> f64
 }
 
 // A pair of length 1, and the state after its draws.
-#[derive(Drop)]
+#[derive(Clone, Copy)]
 struct Drawn {
     x: f64,
     y: f64,
@@ -71,7 +71,7 @@ fn draw_pair(state: u32) -> Drawn
 }
 
 // The pairs in the order of the draws, channel by channel, and the state after them.
-#[derive(Drop)]
+#[derive(Clone, Copy)]
 struct Pairs {
     x: [f64; 1024],
     y: [f64; 1024],

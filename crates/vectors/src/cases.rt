@@ -7,7 +7,7 @@ use stored::sheets::Stored;
 use stored::{sheets, words};
 
 // A case: what stands in its words, and where its parameters stand.
-#[derive(Drop)]
+#[derive(Clone, Copy)]
 pub struct Case {
     pub code: u32,
     pub width: usize,
@@ -20,7 +20,7 @@ pub struct Case {
 
 // Up to three sheets, of which those that the case lacks are empty, and where the answer stands between their bytes before the
 // call and after it.
-#[derive(Drop)]
+#[derive(Clone, Copy)]
 pub struct Sheets {
     pub first: Stored,
     pub second: Stored,

@@ -12,7 +12,7 @@ use stored::words;
 const MOST: u32 = 512;
 
 // A channel's function, whose numbers stand among the parameters, and where the next channel's parameters begin.
-#[derive(Drop)]
+#[derive(Clone, Copy)]
 struct Channel {
     kind: u32,
     numbers: Numbers,

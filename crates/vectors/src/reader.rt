@@ -1,21 +1,21 @@
 // The bytes of a file, through a lent buffer of any size.
 
 // A place in the buffer: the next byte stands at `at`, and what was read ends at `end`.
-#[derive(Drop)]
+#[derive(Clone, Copy)]
 pub struct Place {
     pub at: usize,
     pub end: usize,
 }
 
 // How many bytes were read, and the place after them.
-#[derive(Drop)]
+#[derive(Clone, Copy)]
 pub struct Filled {
     pub count: usize,
     pub after: Place,
 }
 
 // A byte and the place after it, or the end of the file.
-#[derive(Drop)]
+#[derive(Clone, Copy)]
 enum Next {
     Byte(u8, Place),
     End,
