@@ -7,7 +7,7 @@ mod pixel;
 
 ghost use Rattle.std.specs.Prelude.{◌≡◌, ◌%◌, length};
 ghost use Rattle.sheet.specs.declared.Answer.TheVariants.{Done};
-ghost use Rattle.sheet.specs.Contract.{was, Filtered};
+ghost use Rattle.sheet.specs.Contract.{lent, Filtered};
 ghost use Rattle.color_matrix.specs.ColorMatrix.{twenty_answer, saturate_answer, rotation_answer, matrix_answer, answer, recoloured};
 
 pub use pixel::{ColourRow, Components, Row};
@@ -97,7 +97,7 @@ pub fn apply(
     height: usize,
     src: &mut [u8],
 ) -> Answer
-    ensures { Filtered (answer matrix (was pool) width height (was src)) result (recoloured matrix (was pool) (was src)) src }
+    ensures { Filtered (answer matrix pool.now width height src.old) result (recoloured matrix pool.now src.old) (lent src.old src.new) }
 {
     let sheets = sheet::test1(width, height, src.len());
     let Answer::Done = sheets else {

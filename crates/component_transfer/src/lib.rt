@@ -5,7 +5,7 @@ mod functions;
 mod lookup;
 
 ghost use Rattle.std.specs.Prelude.{◌≡◌};
-ghost use Rattle.sheet.specs.Contract.{Filtered};
+ghost use Rattle.sheet.specs.Contract.{lent, read_only, Filtered};
 ghost use Rattle.component_transfer.specs.ComponentTransfer.{entries_answer, linear_answer, function_answer, functions_answer, tested, lent_answer, lent_bytes};
 
 use pool::Numbers;
@@ -86,7 +86,7 @@ pub fn test(
     a: TransferFunction,
     alphas: &[f32],
 ) -> Answer
-    ensures { result ≡ functions_answer (tested r reds) (tested g greens) (tested b blues) (tested a alphas) }
+    ensures { result ≡ functions_answer (tested r (read_only reds.now)) (tested g (read_only greens.now)) (tested b (read_only blues.now)) (tested a (read_only alphas.now)) }
 {
     of_all(
         test_function(r, reds),
@@ -113,7 +113,7 @@ pub fn apply(
     height: usize,
     src: &mut [u8],
 ) -> Answer
-    ensures { Filtered (lent_answer r reds g greens b blues a alphas width height src) result (lent_bytes r reds g greens b blues a alphas src) src }
+    ensures { Filtered (lent_answer r (read_only reds.now) g (read_only greens.now) b (read_only blues.now) a (read_only alphas.now) width height (lent src.old src.new)) result (lent_bytes r (read_only reds.now) g (read_only greens.now) b (read_only blues.now) a (read_only alphas.now) (lent src.old src.new)) (lent src.old src.new) }
 {
     let sheets = sheet::test1(width, height, src.len());
     let Answer::Done = sheets else {

@@ -4,6 +4,7 @@ ghost use Rattle.sheet.specs.declared.Answer.TheVariants.{Done};
 ghost use Rattle.sheet.specs.Tabulate.{tabulate};
 ghost use Rattle.component_transfer.specs.ComponentTransfer.{function_answer, transfer, transferred, byte_of};
 ghost use Rattle.component_transfer.specs.Inner.Lookup.{LookedUp};
+ghost use Rattle.sheet.specs.Contract.{read_only};
 
 use crate::{TransferFunction, functions};
 use sheet::pixel::Straight;
@@ -60,7 +61,7 @@ pub fn transfer_all(
 )
     requires reds_value { (function_answer r reds.now ≡ Done) × (function_answer g greens.now ≡ Done) × (function_answer b blues.now ≡ Done) × (function_answer a alphas.now ≡ Done) }
     requires src_len { length src.old % 4 ≡ 0 }
-    ensures { src.new ≡ transferred (byte_of r reds) (byte_of g greens) (byte_of b blues) (byte_of a alphas) src.old }
+    ensures { src.new ≡ transferred (byte_of r (read_only reds.now)) (byte_of g (read_only greens.now)) (byte_of b (read_only blues.now)) (byte_of a (read_only alphas.now)) src.old }
 {
     let red = every_byte(r, reds);
     let green = every_byte(g, greens);

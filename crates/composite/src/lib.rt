@@ -4,7 +4,7 @@
 mod pixel;
 
 ghost use Rattle.std.specs.Prelude.{◌≡◌, ◌%◌, length};
-ghost use Rattle.sheet.specs.Contract.{was, Filtered};
+ghost use Rattle.sheet.specs.Contract.{lent, Filtered};
 ghost use Rattle.composite.specs.Composite.{factors_answer, answer, composed};
 ghost use Rattle.composite.specs.Arithmetic.{factors};
 
@@ -50,7 +50,7 @@ pub fn arithmetic(
     src2: &[u8],
     dest: &mut [u8],
 ) -> Answer
-    ensures { Filtered (answer k1 k2 k3 k4 width height (was src1) (was src2) (was dest)) result (composed (factors k1 k2 k3 k4) (was src1) (was src2)) dest }
+    ensures { Filtered (answer k1 k2 k3 k4 width height src1.now src2.now dest.old) result (composed (factors k1 k2 k3 k4) src1.now src2.now) (lent dest.old dest.new) }
 {
     let sheets = sheet::test3(width, height, src1.len(), src2.len(), dest.len());
     let tested = sheet::and_then(sheets, test(k1, k2, k3, k4));

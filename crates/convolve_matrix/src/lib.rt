@@ -7,7 +7,7 @@ mod rows;
 mod sheets;
 
 ghost use Rattle.std.specs.Prelude.{◌≡◌};
-ghost use Rattle.sheet.specs.Contract.{was, Filtered, Cleared};
+ghost use Rattle.sheet.specs.Contract.{lent, Filtered, Cleared};
 ghost use Rattle.convolve_matrix.specs.ConvolveMatrix.{is_side, is_divisor, is_kernel, are_finite, are_in_range, kernel_answer, answer, convolved};
 
 pub use edge::EdgeMode;
@@ -123,8 +123,8 @@ pub fn apply(
     src: &mut [u8],
     scratch: &mut [u8],
 ) -> Answer
-    ensures filtered { Filtered (answer matrix (was pool) width height (was src) (was scratch)) result (convolved matrix (was pool) width height (was src)) src }
-    ensures cleared { Cleared 0 (answer matrix (was pool) width height (was src) (was scratch)) scratch }
+    ensures filtered { Filtered (answer matrix pool.now width height src.old scratch.old) result (convolved matrix pool.now width height src.old) (lent src.old src.new) }
+    ensures cleared { Cleared 0 (answer matrix pool.now width height src.old scratch.old) (lent scratch.old scratch.new) }
 {
     let sheets = sheet::test2(width, height, src.len(), scratch.len());
     let Answer::Done = sheets else {

@@ -5,7 +5,6 @@ ghost use Rattle.std.specs.Float.{nan};
 ghost use Rattle.floats.specs.Constants.{c0};
 ghost use Rattle.floats.specs.Channel.{normalized};
 ghost use Rattle.floats.specs.Operators.{◌⊕◌, ◌⊗◌};
-ghost use Rattle.sheet.specs.Contract.{was, became};
 ghost use Rattle.sheet.specs.Size.{side_limit, Sized};
 ghost use Rattle.sheet.specs.Inner.Strips.{Changed};
 ghost use Rattle.convolve_matrix.specs.ConvolveMatrix.{row_sum, in_order};
@@ -17,7 +16,7 @@ use crate::{ConvolveMatrix, edge};
 // The first n sums become 0.
 pub fn clear(sums: &mut [f32], n: usize)
     requires { n ≤ length sums.old }
-    ensures { Changed nan (λ i. c0) 0 n (was sums) (became sums) }
+    ensures { Changed nan (λ i. c0) 0 n sums.old sums.new }
 {
     let mut i = 0;
     while i < n {
@@ -30,7 +29,7 @@ pub fn clear(sums: &mut [f32], n: usize)
 fn to_numbers(src: &[u8], other: usize, row: &mut [f32], at: usize, n: usize)
     requires n_in_bounds { other + n ≤ length src.now }
     requires n_in_bounds_2 { at + n ≤ length row.old }
-    ensures { Changed nan (λ i. normalized (get_or (was src) (other + i) 0)) at n (was row) (became row) }
+    ensures { Changed nan (λ i. normalized (get_or src.now (other + i) 0)) at n row.old row.new }
 {
     let mut i = 0;
     while i < n {
@@ -43,7 +42,7 @@ fn to_numbers(src: &[u8], other: usize, row: &mut [f32], at: usize, n: usize)
 fn accumulate(k: f32, row: &[f32], other: usize, sums: &mut [f32], at: usize, n: usize)
     requires n_in_bounds { other + n ≤ length row.now }
     requires n_in_bounds_2 { at + n ≤ length sums.old }
-    ensures { Changed nan (λ i. get_or (was sums) (at + i) nan ⊕ get_or (was row) (other + i) nan ⊗ k) at n (was sums) (became sums) }
+    ensures { Changed nan (λ i. get_or sums.old (at + i) nan ⊕ get_or row.now (other + i) nan ⊗ k) at n sums.old sums.new }
 {
     let mut i = 0;
     while i < n {
@@ -66,7 +65,7 @@ fn widen_places(
 )
     requires w_nonzero { (0 < w) × (first + 4 * w ≤ length src.now) × (x ≤ w) }
     requires lo_le_hi { (lo ≤ hi) × (4 * hi ≤ length row.old) }
-    ensures { Widened mode target w (was src) first x lo hi (was row) (became row) }
+    ensures { Widened mode target w src.now first x lo hi row.old row.new }
 {
     let mut e = lo;
     while e < hi {
@@ -90,7 +89,7 @@ fn widen(
 )
     requires w_nonzero { (0 < w) × (first + 4 * w ≤ length src.now) × (x + n ≤ w) }
     requires target_lt_columns { (target < columns) × (4 * (n + (columns - 1)) ≤ length row.old) }
-    ensures { Widened mode target w (was src) first x 0 (n + (columns - 1)) (was row) (became row) }
+    ensures { Widened mode target w src.now first x 0 (n + (columns - 1)) row.old row.new }
 {
     let end = n + (columns - 1);
     let lo = edge::less_within(target, x, end);
@@ -115,7 +114,7 @@ fn add_columns(
     requires kernel { Kernel matrix kernel.now × (oy < matrix.rows) }
     requires w_le_side_limit { (w ≤ side_limit) × (x + n ≤ w) }
     requires columns_in_bounds { (4 * (n + (matrix.columns - 1)) ≤ length row.now) × (4 * n ≤ length sums.old) }
-    ensures { Added (λ i c. in_order matrix.columns (shifted_by matrix (was kernel) w x (was row) oy i c)) n (was sums) (became sums) }
+    ensures { Added (λ i c. in_order matrix.columns (shifted_by matrix kernel.now w x row.now oy i c)) n sums.old sums.new }
 {
     let mode = matrix.edge_mode;
     let columns = matrix.columns as usize;
@@ -150,7 +149,7 @@ fn add_row(
     requires kernel { Kernel matrix kernel.now × (oy < matrix.rows) × (y < h) }
     requires sized { Sized w h × (length src.now ≡ 4 * w * h) × (x + n ≤ w) }
     requires columns_in_bounds { (4 * (n + (matrix.columns - 1)) ≤ length row.old) × (4 * n ≤ length sums.old) }
-    ensures { Added (λ i c. row_sum matrix (was kernel) w h (was src) (x + i) y c oy) n (was sums) (became sums) }
+    ensures { Added (λ i c. row_sum matrix kernel.now w h src.now (x + i) y c oy) n sums.old sums.new }
 {
     let mode = matrix.edge_mode;
     let target = matrix.target_y as usize;
@@ -188,7 +187,7 @@ pub fn add_rows(
     requires kernel { Kernel matrix kernel.now × (y < h) }
     requires sized { Sized w h × (length src.now ≡ 4 * w * h) × (x + n ≤ w) }
     requires columns_in_bounds { (4 * (n + (matrix.columns - 1)) ≤ length row.old) × (4 * n ≤ length sums.old) }
-    ensures { Added (λ i c. in_order matrix.rows (row_sum matrix (was kernel) w h (was src) (x + i) y c)) n (was sums) (became sums) }
+    ensures { Added (λ i c. in_order matrix.rows (row_sum matrix kernel.now w h src.now (x + i) y c)) n sums.old sums.new }
 {
     let rows = matrix.rows as usize;
     let mut oy = 0;

@@ -1,6 +1,5 @@
 // The sheet, strip by strip, and each strip row by row: the n columns from column x on.
 ghost use Rattle.std.specs.Prelude.{◌≡◌, ◌+◌, ◌-◌, ◌*◌, ◌≤◌, ◌<◌, length};
-ghost use Rattle.sheet.specs.Contract.{was, became};
 ghost use Rattle.sheet.specs.Size.{Sized};
 ghost use Rattle.sheet.specs.Inner.Strips.{strip_limit, Worked, Changed};
 ghost use Rattle.sheet.specs.Tabulate.{zeros};
@@ -25,7 +24,7 @@ fn finish_row(
     dest: &mut [u8],
 )
     requires { (4 * n ≤ length sums.now) × (first + 4 * n ≤ length src.now) × (first + 4 * n ≤ length dest.old) }
-    ensures { Changed 0 (finished_at matrix (was sums) (was src) first) first (4 * n) (was dest) (became dest) }
+    ensures { Changed 0 (finished_at matrix sums.now src.now first) first (4 * n) dest.old dest.new }
 {
     let end = 4 * n;
     let mut k = 0;
@@ -61,7 +60,7 @@ fn convolve_row(
     requires sized { Sized w h × (length src.now ≡ 4 * w * h) × (length dest.old ≡ 4 * w * h) }
     requires n_bound { (x + n ≤ w) × (n ≤ strip_limit) }
     requires row_len { (length row.old ≡ 4 * (strip_limit + (kernel_limit - 1))) × (length sums.old ≡ 4 * strip_limit) }
-    ensures { Changed 0 (λ j. convolved_at matrix (was kernel) w h (was src) (4 * (y * w + x) + j)) (4 * (y * w + x)) (4 * n) (was dest) (became dest) }
+    ensures { Changed 0 (λ j. convolved_at matrix kernel.now w h src.now (4 * (y * w + x) + j)) (4 * (y * w + x)) (4 * n) dest.old dest.new }
 {
     rows::clear(sums, 4 * n);
     rows::add_rows(matrix, kernel, w, h, src, x, n, y, row, sums);
@@ -86,7 +85,7 @@ fn convolve_rows(
     requires n_bound { (x + n ≤ w) × (n ≤ strip_limit) }
     requires row_len { (length row.old ≡ 4 * (strip_limit + (kernel_limit - 1))) × (length sums.old ≡ 4 * strip_limit) }
     requires worked { Worked (convolved_at matrix kernel.now w h src.now) w x n 0 dest.old }
-    ensures { Worked (convolved_at matrix (was kernel) w h (was src)) w x n h (became dest) }
+    ensures { Worked (convolved_at matrix kernel.now w h src.now) w x n h dest.new }
 {
     let mut y = 0;
     while y < h {
@@ -106,7 +105,7 @@ fn convolve_into(
 )
     requires kernel { Kernel matrix kernel.now }
     requires sized { Sized w h × (length src.now ≡ 4 * w * h) × (length dest.old ≡ 4 * w * h) }
-    ensures { became dest ≡ convolved_by matrix (was kernel) w h (was src) }
+    ensures { dest.new ≡ convolved_by matrix kernel.now w h src.now }
 {
     let mut row = [0.0f32; WIDENED];
     let mut sums = [0.0f32; SUMS];
@@ -129,8 +128,8 @@ pub fn convolve(
 )
     requires kernel { Kernel matrix kernel.now }
     requires sized { Sized w h × (length src.old ≡ 4 * w * h) × (length scratch.old ≡ 4 * w * h) }
-    ensures src_value { became src ≡ convolved_by matrix (was kernel) w h (was src) }
-    ensures scratch_value { became scratch ≡ zeros (length (was scratch)) }
+    ensures src_value { src.new ≡ convolved_by matrix kernel.now w h src.old }
+    ensures scratch_value { scratch.new ≡ zeros (length scratch.old) }
 {
     sheet::copy(&src[..], scratch);
     convolve_into(matrix, kernel, w, h, &scratch[..], src);

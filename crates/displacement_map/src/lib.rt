@@ -5,7 +5,7 @@ mod landing;
 mod moving;
 
 ghost use Rattle.std.specs.Prelude.{◌≡◌};
-ghost use Rattle.sheet.specs.Contract.{was, Filtered};
+ghost use Rattle.sheet.specs.Contract.{lent, Filtered};
 ghost use Rattle.displacement_map.specs.DisplacementMap.{in_canvas, in_scale, scales_answer, answer, displaced};
 
 use sheet::{Answer, Refusal};
@@ -78,7 +78,7 @@ pub fn apply(
     map: &[u8],
     dest: &mut [u8],
 ) -> Answer
-    ensures { Filtered (answer sx sy scale width height (was src) (was map) (was dest)) result (displaced x_channel y_channel sx sy scale width height (was src) (was map)) dest }
+    ensures { Filtered (answer sx sy scale width height src.now map.now dest.old) result (displaced x_channel y_channel sx sy scale width height src.now map.now) (lent dest.old dest.new) }
 {
     let sheets = sheet::test3(width, height, src.len(), map.len(), dest.len());
     let tested = sheet::and_then(sheets, test(sx, sy, scale));

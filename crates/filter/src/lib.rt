@@ -6,6 +6,7 @@ mod step;
 
 ghost use Rattle.filter.specs.Call.{call, Ran};
 ghost use Rattle.filter.specs.Reach.{ReachesExactly};
+ghost use Rattle.sheet.specs.Contract.{lent, read_only};
 
 pub use recipe::{Kind, Recipe, STEP_LIMIT, Step, Work};
 use sheet::{Answer, Size};
@@ -25,7 +26,7 @@ pub fn run(
     slot3: &mut [u8],
     scratch: &mut [u8],
 ) -> Answer
-    ensures { Ran (call recipe kind pool size source slot1 slot2 slot3 scratch) result }
+    ensures { Ran (call recipe kind (read_only pool.now) size (read_only source.now) (lent slot1.old slot1.new) (lent slot2.old slot2.new) (lent slot3.old slot3.new) (lent scratch.old scratch.new)) result }
 {
     let tested = recipe::run_answer(
         recipe,
@@ -64,7 +65,7 @@ pub fn reaches(
     slot3: &[u8],
     scratch: &[u8],
 ) -> ReachAnswer
-    ensures { ReachesExactly (call recipe kind pool size source slot1 slot2 slot3 scratch) result }
+    ensures { ReachesExactly (call recipe kind (read_only pool.now) size (read_only source.now) (read_only slot1.now) (read_only slot2.now) (read_only slot3.now) (read_only scratch.now)) result }
 {
     let answer = recipe::run_answer(
         recipe,

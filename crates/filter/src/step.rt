@@ -2,7 +2,7 @@
 ghost use Rattle.std.specs.Prelude.{◌≡◌, [], ◌∷◌, ℕ, ◌*◌, ◌≤◌, ◌<◌, length};
 ghost use Rattle.sheet.specs.declared.Answer.TheVariants.{Done};
 ghost use Rattle.sheet.specs.Size.{sheets_answer};
-ghost use Rattle.sheet.specs.Contract.{was, became};
+ghost use Rattle.sheet.specs.Contract.{read_only};
 ghost use Rattle.sheet.specs.Tabulate.{zeros};
 ghost use Rattle.morphology.specs.Morphology.{radii_answer, morphed};
 ghost use Rattle.composite.specs.Composite.{factors_answer, composed};
@@ -30,7 +30,7 @@ use turbulence::Turbulence;
 
 // The sheet in a slot; a slot outside 0..=3 has no bytes.
 fn pick<'a>(slot: u32, a: &'a [u8], b: &'a [u8], c: &'a [u8], d: &'a [u8]) -> &'a [u8]
-    ensures { result.now ≡ slot_of (slots (was a) (was b) (was c) (was d)) slot }
+    ensures { result.now ≡ slot_of (slots a.now b.now c.now d.now) slot }
 {
     if slot == 0 {
         a
@@ -56,7 +56,7 @@ fn morphology_into(
 )
     requires scratch_value { sheets_answer size.width size.height (length src.now ∷ length out.old ∷ length scratch.old ∷ []) ≡ Done }
     requires ry_value { radii_answer rx ry ≡ Done }
-    ensures { became out ≡ morphed operator rx ry size.width size.height (was src) }
+    ensures { out.new ≡ morphed operator rx ry size.width size.height src.now }
 {
     sheet::copy(src, out);
     morphology::apply(operator, rx, ry, size.width, size.height, out, scratch);
@@ -74,7 +74,7 @@ fn arithmetic_into(
 )
     requires out_value { sheets_answer size.width size.height (length src1.now ∷ length src2.now ∷ length out.old ∷ []) ≡ Done }
     requires k4_value { factors_answer k1 k2 k3 k4 ≡ Done }
-    ensures { became out ≡ composed (factors k1 k2 k3 k4) (was src1) (was src2) }
+    ensures { out.new ≡ composed (factors k1 k2 k3 k4) src1.now src2.now }
 {
     composite::arithmetic(k1, k2, k3, k4, size.width, size.height, src1, src2, out);
 }
@@ -82,7 +82,7 @@ fn arithmetic_into(
 fn matrix_into(matrix: ColorMatrix, pool: &[f32], size: Size, src: &[u8], out: &mut [u8])
     requires out_value { sheets_answer size.width size.height (length src.now ∷ length out.old ∷ []) ≡ Done }
     requires pool_value { matrix_answer matrix pool.now ≡ Done }
-    ensures { became out ≡ recoloured matrix (was pool) (was src) }
+    ensures { out.new ≡ recoloured matrix pool.now src.now }
 {
     sheet::copy(src, out);
     color_matrix::apply(matrix, pool, size.width, size.height, out);
@@ -100,7 +100,7 @@ fn transfer_into(
 )
     requires out_value { sheets_answer size.width size.height (length src.now ∷ length out.old ∷ []) ≡ Done }
     requires pool_value { channels_answer r g b a pool.now ≡ Done }
-    ensures { became out ≡ transferred (byte_of r pool) (byte_of g pool) (byte_of b pool) (byte_of a pool) (was src) }
+    ensures { out.new ≡ transferred (byte_of r (read_only pool.now)) (byte_of g (read_only pool.now)) (byte_of b (read_only pool.now)) (byte_of a (read_only pool.now)) src.now }
 {
     sheet::copy(src, out);
     component_transfer::apply(
@@ -128,7 +128,7 @@ fn convolve_into(
 )
     requires scratch_value { sheets_answer size.width size.height (length src.now ∷ length out.old ∷ length scratch.old ∷ []) ≡ Done }
     requires pool_value { kernel_answer matrix pool.now ≡ Done }
-    ensures { became out ≡ convolved matrix (was pool) size.width size.height (was src) }
+    ensures { out.new ≡ convolved matrix pool.now size.width size.height src.now }
 {
     sheet::copy(src, out);
     convolve_matrix::apply(matrix, pool, size.width, size.height, out, scratch);
@@ -147,7 +147,7 @@ fn displacement_into(
 )
     requires out_value { sheets_answer size.width size.height (length src.now ∷ length map.now ∷ length out.old ∷ []) ≡ Done }
     requires scale_value { scales_answer sx sy scale ≡ Done }
-    ensures { became out ≡ displaced x_channel y_channel sx sy scale size.width size.height (was src) (was map) }
+    ensures { out.new ≡ displaced x_channel y_channel sx sy scale size.width size.height src.now map.now }
 {
     displacement_map::apply(
         x_channel,
@@ -166,7 +166,7 @@ fn displacement_into(
 fn turbulence_into(t: Turbulence, size: Size, out: &mut [u8])
     requires out_value { sheets_answer size.width size.height (length out.old ∷ []) ≡ Done }
     requires t_value { turbulence_answer t ≡ Done }
-    ensures { became out ≡ drawn t size.width size.height }
+    ensures { out.new ≡ drawn t size.width size.height }
 {
     turbulence::apply(t, size.width, size.height, out);
 }
@@ -182,7 +182,7 @@ fn diffuse_into(
 )
     requires out_value { sheets_answer size.width size.height (length src.now ∷ length out.old ∷ []) ≡ Done }
     requires constant_value { diffuse_answer light scale constant ≡ Done }
-    ensures { became out ≡ lit (diffuse light scale constant color) size.width size.height (was src) }
+    ensures { out.new ≡ lit (diffuse light scale constant color) size.width size.height src.now }
 {
     lighting::diffuse_lighting(
         light,
@@ -208,7 +208,7 @@ fn specular_into(
 )
     requires out_value { sheets_answer size.width size.height (length src.now ∷ length out.old ∷ []) ≡ Done }
     requires exponent_value { specular_answer light scale constant exponent ≡ Done }
-    ensures { became out ≡ lit (specular light scale constant color) size.width size.height (was src) }
+    ensures { out.new ≡ lit (specular light scale constant color) size.width size.height src.now }
 {
     lighting::specular_lighting(
         light,
@@ -235,7 +235,7 @@ fn work_on(
 )
     requires scratch_value { sheets_answer size.width size.height (length src1.now ∷ length src2.now ∷ length out.old ∷ length scratch.old ∷ []) ≡ Done }
     requires pool_value { work_answer work pool.now ≡ Done }
-    ensures { MadeOf work (was pool) size.width size.height (was src1) (was src2) (became out) }
+    ensures { MadeOf work pool.now size.width size.height src1.now src2.now out.new }
 {
     match work {
         Work::Morphology(_, operator, rx, ry) => {
@@ -278,7 +278,7 @@ fn work_into<'a>(
     requires out_len { length out.old ≡ 4 * size.width * size.height }
     requires pool_value { work_answer work pool.now ≡ Done }
     requires by_index { (s : ℕ) → IsInput (inputs_of work) s → s ≤ 3 }
-    ensures { became out ≡ made work (was pool) size.width size.height (slot_of (slots (was a) (was b) (was c) (was d))) }
+    ensures { out.new ≡ made work pool.now size.width size.height (slot_of (slots a.now b.now c.now d.now)) }
 {
     let inputs = recipe::inputs_of(work);
     match inputs {
@@ -308,7 +308,7 @@ fn do_step(
 )
     requires fits { Fits size.width size.height (slots s0.now s1.old s2.old s3.old) scratch.old }
     requires legal { Legal step pool.now }
-    ensures { slots (was s0) (became s1) (became s2) (became s3) ≡ act (was pool) size.width size.height step (slots (was s0) (was s1) (was s2) (was s3)) }
+    ensures { slots s0.now s1.new s2.new s3.new ≡ act pool.now size.width size.height step (slots s0.now s1.old s2.old s3.old) }
 {
     let out = step.output;
     let work = step.work;
@@ -335,8 +335,8 @@ pub fn do_steps(
     requires fits { Fits size.width size.height (slots s0.now s1.old s2.old s3.old) scratch.old }
     requires count_le_step_limit { recipe.count ≤ step_limit }
     requires by_index { (i : ℕ) → i < recipe.count → Legal (step_of recipe i) pool.now }
-    ensures s3_value { slots (was s0) (became s1) (became s2) (became s3) ≡ acts (was pool) size.width size.height (step_of recipe) recipe.count (slots (was s0) (was s1) (was s2) (was s3)) }
-    ensures scratch_value { became scratch ≡ zeros (length (was scratch)) }
+    ensures s3_value { slots s0.now s1.new s2.new s3.new ≡ acts pool.now size.width size.height (step_of recipe) recipe.count (slots s0.now s1.old s2.old s3.old) }
+    ensures scratch_value { scratch.new ≡ zeros (length scratch.old) }
 {
     let count = recipe.count;
     let mut i = 0;

@@ -1,7 +1,7 @@
 // Every pixel of a sheet: strip by strip, and each strip row by row.
 ghost use Rattle.std.specs.Prelude.{◌≡◌, ◌*◌, ◌≤◌, length};
 ghost use Rattle.sheet.specs.Size.{Sized};
-ghost use Rattle.sheet.specs.Contract.{was, became, Filtered};
+ghost use Rattle.sheet.specs.Contract.{lent, Filtered};
 ghost use Rattle.sheet.specs.Inner.Strips.{strip_limit};
 ghost use Rattle.sheet.specs.Tabulate.{tabulate};
 ghost use Rattle.surface.specs.Inner.Lines.{Placed};
@@ -23,7 +23,7 @@ fn distant_rows(lighting: Lighting, direction: Vector3, strip: Strip, src: &[u8]
     requires light_value { lighting.light ≡ LightSource.Distant direction.x direction.y direction.z }
     requires placed { Placed strip × (strip.count ≤ strip_limit) × (length src.now ≡ 4 * strip.width * strip.height) × (length dest.old ≡ 4 * strip.width * strip.height) }
     requires strip_done { StripDone lighting strip src.now 0 dest.old }
-    ensures { StripDone lighting strip (was src) strip.height (became dest) }
+    ensures { StripDone lighting strip src.now strip.height dest.new }
 {
     let reflection = lighting.reflection;
     let vector = light::ray_vector(reflection, direction);
@@ -56,7 +56,7 @@ fn point_rows(lighting: Lighting, point: Vector3, strip: Strip, src: &[u8], dest
     requires light_value { lighting.light ≡ LightSource.Point point.x point.y point.z }
     requires placed { Placed strip × (strip.count ≤ strip_limit) × (length src.now ≡ 4 * strip.width * strip.height) × (length dest.old ≡ 4 * strip.width * strip.height) }
     requires strip_done { StripDone lighting strip src.now 0 dest.old }
-    ensures { StripDone lighting strip (was src) strip.height (became dest) }
+    ensures { StripDone lighting strip src.now strip.height dest.new }
 {
     let mut sums = [0u16; WIDENED];
     let mut above = [0u8; WIDENED];
@@ -88,7 +88,7 @@ fn point_rows(lighting: Lighting, point: Vector3, strip: Strip, src: &[u8], dest
 fn light_rows(lighting: Lighting, strip: Strip, src: &[u8], dest: &mut [u8])
     requires placed { Placed strip × (strip.count ≤ strip_limit) × (length src.now ≡ 4 * strip.width * strip.height) × (length dest.old ≡ 4 * strip.width * strip.height) }
     requires strip_done { StripDone lighting strip src.now 0 dest.old }
-    ensures { StripDone lighting strip (was src) strip.height (became dest) }
+    ensures { StripDone lighting strip src.now strip.height dest.new }
 {
     let light = lighting.light;
     match light {
@@ -157,7 +157,7 @@ pub fn filter(
     src: &[u8],
     dest: &mut [u8],
 ) -> Answer
-    ensures { Filtered (answer tested width height (was src) (was dest)) result (lit lighting width height (was src)) dest }
+    ensures { Filtered (answer tested width height src.now dest.old) result (lit lighting width height src.now) (lent dest.old dest.new) }
 {
     let sheets = sheet::test2(width, height, src.len(), dest.len());
     let passed = sheet::and_then(sheets, tested);

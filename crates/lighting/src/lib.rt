@@ -10,7 +10,7 @@ mod vector;
 ghost use Rattle.std.specs.Prelude.{◌≡◌, cond, false};
 ghost use Rattle.std.specs.Float.Ieee.Scale.{finite};
 ghost use Rattle.floats.specs.Order.{within};
-ghost use Rattle.sheet.specs.Contract.{was, Filtered};
+ghost use Rattle.sheet.specs.Contract.{lent, Filtered};
 ghost use Rattle.lighting.specs.Lighting.{all3, finite_light, in_reach, m256, c256, light_in_range, finite_numbers, numbers_in_range, tested};
 ghost use Rattle.lighting.specs.Lighting.{diffuse_answer, specular_answer, answer, lit, diffuse, specular};
 
@@ -142,7 +142,7 @@ pub fn diffuse_lighting(
     src: &[u8],
     dest: &mut [u8],
 ) -> Answer
-    ensures { Filtered (answer (diffuse_answer light scale constant) width height (was src) (was dest)) result (lit (diffuse light scale constant color) width height (was src)) dest }
+    ensures { Filtered (answer (diffuse_answer light scale constant) width height src.now dest.old) result (lit (diffuse light scale constant color) width height src.now) (lent dest.old dest.new) }
 {
     let tested = test_diffuse(light, scale, constant);
     let lighting = Lighting {
@@ -170,7 +170,7 @@ pub fn specular_lighting(
     src: &[u8],
     dest: &mut [u8],
 ) -> Answer
-    ensures { Filtered (answer (specular_answer light scale constant exponent) width height (was src) (was dest)) result (lit (specular light scale constant color) width height (was src)) dest }
+    ensures { Filtered (answer (specular_answer light scale constant exponent) width height src.now dest.old) result (lit (specular light scale constant color) width height src.now) (lent dest.old dest.new) }
 {
     let tested = test_specular(light, scale, constant, exponent);
     let lighting = Lighting {

@@ -1,7 +1,6 @@
 // One row of a strip, in passes over its columns. Each pass fills the first places of lent work space, one for each column.
 ghost use Rattle.std.specs.Prelude.{◌≡◌, ℕ, ◌*◌, ◌+◌, ◌≤◌, ◌<◌, length, get_or};
 ghost use Rattle.std.specs.Float.{nan};
-ghost use Rattle.sheet.specs.Contract.{was, became};
 ghost use Rattle.surface.specs.Inner.Lines.{Placed, Columns, normal_in};
 ghost use Rattle.lighting.specs.Vectors as Vectors;
 ghost use Rattle.lighting.specs.Light.{normal_vector};
@@ -33,7 +32,7 @@ fn squares(
     lengths: &mut [f32],
 )
     requires { Placed strip × Columns strip.count sums.now above.now below.now × (y < strip.height) × (strip.count ≤ length lengths.old) }
-    ensures { Filled nan (λ i. square (normal_vector scale (normal_in strip (was sums) (was above) (was below) i y))) strip.count (was lengths) (became lengths) }
+    ensures { Filled nan (λ i. square (normal_vector scale (normal_in strip sums.now above.now below.now i y))) strip.count lengths.old lengths.new }
 {
     let mut i = 0;
     while i < strip.count {
@@ -57,7 +56,7 @@ fn slopes(
 )
     requires placed { Placed strip × (length src.now ≡ 4 * strip.width * strip.height) × (y < strip.height) }
     requires count_in_bounds { (strip.count + 2 ≤ length sums.old) × (strip.count + 2 ≤ length above.old) × (strip.count + 2 ≤ length below.old) × (strip.count ≤ length lengths.old) }
-    ensures { Sloped scale strip (was src) y (became sums) (became above) (became below) (became lengths) }
+    ensures { Sloped scale strip src.now y sums.new above.new below.new lengths.new }
 {
     surface::columns(src, strip, y, sums, above, below);
     squares(scale, strip, sums, above, below, y, lengths);
@@ -67,7 +66,7 @@ fn slopes(
 // The vectors from the surface of row y to a point: their products with themselves.
 fn distances(point: Vector3, scale: f32, strip: Strip, src: &[u8], y: usize, spans: &mut [f32])
     requires { Placed strip × (length src.now ≡ 4 * strip.width * strip.height) × (y < strip.height) × (strip.count ≤ length spans.old) }
-    ensures { Filled nan (λ i. square (from_row point scale strip (was src) y i)) strip.count (was spans) (became spans) }
+    ensures { Filled nan (λ i. square (from_row point scale strip src.now y i)) strip.count spans.old spans.new }
 {
     let start = start_of(strip, y);
     let mut i = 0;
@@ -90,7 +89,7 @@ fn halves(
     sizes: &mut [f32],
 )
     requires { Placed strip × (length src.now ≡ 4 * strip.width * strip.height) × (y < strip.height) × (strip.count ≤ length spans.now) × (strip.count ≤ length sizes.old) }
-    ensures { Filled nan (λ i. square (point_vector Reflection.Specular point scale strip (was src) y (was spans) i)) strip.count (was sizes) (became sizes) }
+    ensures { Filled nan (λ i. square (point_vector Reflection.Specular point scale strip src.now y spans.now i)) strip.count sizes.old sizes.new }
 {
     let start = start_of(strip, y);
     let mut i = 0;
@@ -114,7 +113,7 @@ fn half_lengths(
     sizes: &mut [f32],
 )
     requires { Placed strip × (length src.now ≡ 4 * strip.width * strip.height) × (y < strip.height) × (strip.count ≤ length spans.now) × (strip.count ≤ length sizes.old) }
-    ensures { (i : ℕ) → i < strip.count → get_or (became sizes) i nan ≡ Vectors.length (point_vector Reflection.Specular point scale strip (was src) y (was spans) i) }
+    ensures { (i : ℕ) → i < strip.count → get_or sizes.new i nan ≡ Vectors.length (point_vector Reflection.Specular point scale strip src.now y spans.now i) }
 {
     halves(point, scale, strip, src, y, spans, sizes);
     floats::roots(sizes, strip.count);
@@ -131,7 +130,7 @@ fn point_lengths(
     sizes: &mut [f32],
 )
     requires { Placed strip × (length src.now ≡ 4 * strip.width * strip.height) × (y < strip.height) × (strip.count ≤ length spans.old) × (strip.count ≤ length sizes.old) }
-    ensures { (i : ℕ) → i < strip.count → point_ray lighting point strip (was src) y (became spans) (became sizes) i ≡ to_point_in lighting point strip (was src) y i }
+    ensures { (i : ℕ) → i < strip.count → point_ray lighting point strip src.now y spans.new sizes.new i ≡ to_point_in lighting point strip src.now y i }
 {
     let reflection = lighting.reflection;
     distances(point, lighting.scale, strip, src, y, spans);
@@ -154,7 +153,7 @@ fn along_vector(
     lengths: &mut [f32],
 )
     requires { Placed strip × Columns strip.count sums.now above.now below.now × (y < strip.height) × (strip.count ≤ length lengths.old) }
-    ensures { Alongs scale (λ _. vector) strip (was sums) (was above) (was below) y (was lengths) (became lengths) }
+    ensures { Alongs scale (λ _. vector) strip sums.now above.now below.now y lengths.old lengths.new }
 {
     let mut i = 0;
     while i < strip.count {
@@ -179,7 +178,7 @@ fn along_each(
 )
     requires columns { Columns strip.count sums.now above.now below.now × (strip.count ≤ length spans.now) × (strip.count ≤ length lengths.old) }
     requires placed { Placed strip × (length src.now ≡ 4 * strip.width * strip.height) × (y < strip.height) }
-    ensures { Alongs lighting.scale (vector_to lighting point strip (was src) y (was spans)) strip (was sums) (was above) (was below) y (was lengths) (became lengths) }
+    ensures { Alongs lighting.scale (vector_to lighting point strip src.now y spans.now) strip sums.now above.now below.now y lengths.old lengths.new }
 {
     let reflection = lighting.reflection;
     let start = start_of(strip, y);
@@ -203,7 +202,7 @@ fn along_each(
 // The factors of n pixels, in the place of how far their rays go along the normals. The rays' lengths are given.
 fn light_factors(reflection: Reflection, constant: f32, n: usize, sizes: &[f32], alongs: &mut [f32])
     requires { (n ≤ length sizes.now) × (n ≤ length alongs.old) }
-    ensures { Filled nan (factors_by reflection constant (was alongs) (was sizes)) n (was alongs) (became alongs) }
+    ensures { Filled nan (factors_by reflection constant alongs.old sizes.now) n alongs.old alongs.new }
 {
     let mut i = 0;
     while i < n {
@@ -215,7 +214,7 @@ fn light_factors(reflection: Reflection, constant: f32, n: usize, sizes: &[f32],
 // Row y of `dest`, lit by factors.
 fn lit_row(lighting: Lighting, strip: Strip, factors: &[f32], y: usize, dest: &mut [u8])
     requires { Placed strip × (strip.count ≤ length factors.now) × (length dest.old ≡ 4 * strip.width * strip.height) × (y < strip.height) }
-    ensures { LitRow lighting (λ i. get_or (was factors) i nan) strip y (was dest) (became dest) }
+    ensures { LitRow lighting (λ i. get_or factors.now i nan) strip y dest.old dest.new }
 {
     let reflection = lighting.reflection;
     let color = lighting.color;
@@ -238,7 +237,7 @@ fn light_row(
     dest: &mut [u8],
 )
     requires { Placed strip × (strip.count ≤ length sizes.now) × (strip.count ≤ length alongs.old) × (length dest.old ≡ 4 * strip.width * strip.height) × (y < strip.height) }
-    ensures { LitRow lighting (factors_by lighting.reflection lighting.constant (was alongs) (was sizes)) strip y (was dest) (became dest) }
+    ensures { LitRow lighting (factors_by lighting.reflection lighting.constant alongs.old sizes.now) strip y dest.old dest.new }
 {
     let reflection = lighting.reflection;
     light_factors(reflection, lighting.constant, strip.count, sizes, alongs);
@@ -264,7 +263,7 @@ pub fn distant_row(
     requires placed { Placed strip × (length src.now ≡ 4 * strip.width * strip.height) × (length dest.old ≡ 4 * strip.width * strip.height) × (y < strip.height) }
     requires count_in_bounds { (strip.count + 2 ≤ length sums.old) × (strip.count + 2 ≤ length above.old) × (strip.count + 2 ≤ length below.old) }
     requires count_in_bounds_2 { (strip.count ≤ length lengths.old) × (strip.count ≤ length sizes.now) }
-    ensures { RowDone lighting strip (was src) y (was dest) (became dest) }
+    ensures { RowDone lighting strip src.now y dest.old dest.new }
 {
     let scale = lighting.scale;
     slopes(scale, strip, src, y, sums, above, below, lengths);
@@ -291,7 +290,7 @@ pub fn point_row(
     requires placed { Placed strip × (length src.now ≡ 4 * strip.width * strip.height) × (length dest.old ≡ 4 * strip.width * strip.height) × (y < strip.height) }
     requires count_in_bounds { (strip.count + 2 ≤ length sums.old) × (strip.count + 2 ≤ length above.old) × (strip.count + 2 ≤ length below.old) }
     requires count_in_bounds_2 { (strip.count ≤ length lengths.old) × (strip.count ≤ length spans.old) × (strip.count ≤ length sizes.old) }
-    ensures { RowDone lighting strip (was src) y (was dest) (became dest) }
+    ensures { RowDone lighting strip src.now y dest.old dest.new }
 {
     slopes(lighting.scale, strip, src, y, sums, above, below, lengths);
     point_lengths(lighting, point, strip, src, y, spans, sizes);

@@ -1,6 +1,5 @@
 // Rows of numbers: as many as a step has at most before, between or after its lists.
 ghost use Rattle.std.specs.Prelude.{◌≡◌, ◌+◌, ◌≤◌, ◌*◌, length, take};
-ghost use Rattle.sheet.specs.Contract.{was, became};
 ghost use Rattle.number.specs.Number.{Put};
 ghost use Rattle.number.specs.Words.{words_at, bytes_of};
 ghost use Rattle.message.specs.Inner.Reading.{BlockRead};
@@ -24,7 +23,7 @@ pub struct Block {
 // Reads `count` numbers, each at most its bound.
 pub fn block_at(message: &[u8], at: usize, most: [u32; BLOCK], count: usize) -> Block
     requires { count ≤ 16 }
-    ensures { BlockRead (was message) at (take count most) result }
+    ensures { BlockRead message.now at (take count most) result }
 {
     let mut words = [0u32; BLOCK];
     let mut place = at;
@@ -55,7 +54,7 @@ pub fn block_at(message: &[u8], at: usize, most: [u32; BLOCK], count: usize) -> 
 // Writes the first `count` of the numbers from `at` on, and gives the place after them.
 pub fn write_block(out: &mut [u8], at: usize, words: [u32; BLOCK], count: usize) -> usize
     requires { (count ≤ 16) × (at + 80 ≤ 18446744073709551615) }
-    ensures put { Put (was out) at (bytes_of (take count words)) (became out) result }
+    ensures put { Put out.old at (bytes_of (take count words)) out.new result }
     ensures upper_bound { result ≤ at + 80 }
 {
     let mut place = at;

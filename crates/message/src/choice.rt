@@ -1,6 +1,5 @@
 // A kind and what it calls for: colour matrices and transfer functions.
 ghost use Rattle.std.specs.Prelude.{◌≡◌, map, ℕ, ◌≤◌, length, get_or};
-ghost use Rattle.sheet.specs.Contract.{was, became};
 ghost use Rattle.message.specs.Inner.Reading.{ChoiceTaken, ShapeTaken, shape_by, matrix_by, function_by};
 
 use crate::Place;
@@ -35,7 +34,7 @@ fn shape_at(
     used: usize,
 ) -> Choice
     requires { (used ≤ at) × (shape ≤ 3) }
-    ensures { ShapeTaken kind (shape_by shape) (was message) at used (was pool) (became pool) result }
+    ensures { ShapeTaken kind (shape_by shape) message.now at used pool.old pool.new result }
 {
     if shape == LIST {
         let read = numbers_at(message, at, pool, used);
@@ -72,7 +71,7 @@ pub fn choice_at(
     used: usize,
 ) -> Choice
     requires { (used ≤ at) × ((length shapes ≡ 4) × ((k : ℕ) → get_or shapes k 0 ≤ 3)) }
-    ensures { ChoiceTaken (map shape_by shapes) (was message) at used (was pool) (became pool) result }
+    ensures { ChoiceTaken (map shape_by shapes) message.now at used pool.old pool.new result }
 {
     let nothing = Choice {
         kind: 0,

@@ -1,6 +1,5 @@
 // Steps with lists of numbers: colour matrix, component transfer, convolve matrix.
 ghost use Rattle.std.specs.Prelude.{◌≤◌};
-ghost use Rattle.sheet.specs.Contract.{was, became};
 ghost use Rattle.message.specs.Inner.Reading.{FormTaken, PairTaken, FunctionsTaken};
 
 use crate::block::{ANY, BLOCK, block_at};
@@ -35,7 +34,7 @@ pub struct FunctionsRead {
 
 fn pair_at(message: &[u8], at: usize, pool: &mut [f32], used: usize) -> PairRead
     requires { used ≤ at }
-    ensures { PairTaken (was message) at used (was pool) (became pool) result }
+    ensures { PairTaken message.now at used pool.old pool.new result }
 {
     let choice = choice_at(message, at, FUNCTIONS, pool, used);
     let first = function_of(choice);
@@ -61,7 +60,7 @@ fn pair_at(message: &[u8], at: usize, pool: &mut [f32], used: usize) -> PairRead
 
 fn functions_at(message: &[u8], at: usize, pool: &mut [f32], used: usize) -> FunctionsRead
     requires { used ≤ at }
-    ensures { FunctionsTaken (was message) at used (was pool) (became pool) result }
+    ensures { FunctionsTaken message.now at used pool.old pool.new result }
 {
     let pair = pair_at(message, at, pool, used);
     let red = pair.first;
@@ -93,7 +92,7 @@ fn functions_at(message: &[u8], at: usize, pool: &mut [f32], used: usize) -> Fun
 
 pub fn component_transfer_at(message: &[u8], at: usize, pool: &mut [f32], used: usize) -> StepRead
     requires { used ≤ at }
-    ensures { FormTaken 3 (was message) at used (was pool) (became pool) result }
+    ensures { FormTaken 3 message.now at used pool.old pool.new result }
 {
     let block = block_at(message, at, [ANY; BLOCK], 2);
     let words = block.words;
@@ -120,7 +119,7 @@ pub fn component_transfer_at(message: &[u8], at: usize, pool: &mut [f32], used: 
 
 pub fn color_matrix_at(message: &[u8], at: usize, pool: &mut [f32], used: usize) -> StepRead
     requires { used ≤ at }
-    ensures { FormTaken 2 (was message) at used (was pool) (became pool) result }
+    ensures { FormTaken 2 message.now at used pool.old pool.new result }
 {
     let block = block_at(message, at, [ANY; BLOCK], 2);
     let words = block.words;
@@ -146,7 +145,7 @@ const KERNEL_TAIL: [u32; BLOCK] = [ANY, ANY, 2, 1, 0, 0, 0, 0, 0, 0, 0, 0, 0, 0,
 
 pub fn convolve_matrix_at(message: &[u8], at: usize, pool: &mut [f32], used: usize) -> StepRead
     requires { used ≤ at }
-    ensures { FormTaken 5 (was message) at used (was pool) (became pool) result }
+    ensures { FormTaken 5 message.now at used pool.old pool.new result }
 {
     let head = block_at(message, at, [ANY; BLOCK], 6);
     let h = head.words;

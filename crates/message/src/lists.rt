@@ -1,6 +1,5 @@
 // A count and so many numbers: matrices, tables and kernels, which stand in a pool.
 ghost use Rattle.std.specs.Prelude.{◌≡◌, ◌+◌, ◌*◌, ◌≤◌, ◌<◌, min, length, set};
-ghost use Rattle.sheet.specs.Contract.{was, became};
 ghost use Rattle.number.specs.Number.{Put};
 ghost use Rattle.number.specs.Words.{bytes_of};
 ghost use Rattle.message.specs.Fields.{write_numbers};
@@ -20,7 +19,7 @@ pub struct NumbersRead {
 
 // Stores x at i, if there is such a place.
 fn put(pool: &mut [f32], i: usize, x: f32)
-    ensures { became pool ≡ set (was pool) i x }
+    ensures { pool.new ≡ set pool.old i x }
 {
     if i < pool.len() {
         pool[i] = x;
@@ -30,7 +29,7 @@ fn put(pool: &mut [f32], i: usize, x: f32)
 // Reads `count` numbers, and stores them in the pool from `used` on, as far as it goes: none in a pool of no numbers.
 fn floats_at(message: &[u8], at: usize, count: usize, pool: &mut [f32], used: usize) -> Place
     requires { used ≤ at }
-    ensures { FloatsTaken (was message) at count used (was pool) (became pool) result }
+    ensures { FloatsTaken message.now at count used pool.old pool.new result }
 {
     let mut i = 0;
     let mut place = at;
@@ -59,7 +58,7 @@ fn start_of(used: usize) -> u32
 // Reads a count and so many numbers, which stand in the pool from `used` on.
 pub fn numbers_at(message: &[u8], at: usize, pool: &mut [f32], used: usize) -> NumbersRead
     requires { used ≤ at }
-    ensures { NumbersTaken (was message) at used (was pool) (became pool) result }
+    ensures { NumbersTaken message.now at used pool.old pool.new result }
 {
     let start = start_of(used);
     let Number::Value(count, next) = read_number(message, at) else {
@@ -88,8 +87,8 @@ pub fn numbers_at(message: &[u8], at: usize, pool: &mut [f32], used: usize) -> N
 // Writes the count of the numbers and the numbers from `at` on, and gives the place after them.
 pub fn write_numbers(out: &mut [u8], at: usize, numbers: &[f32]) -> usize
     requires { (length numbers.now < 4294967296) × (at + 5 * length numbers.now + 5 ≤ 18446744073709551615) }
-    ensures put { Put (was out) at (bytes_of (write_numbers (was numbers))) (became out) result }
-    ensures upper_bound { result ≤ at + 5 * length (was numbers) + 5 }
+    ensures put { Put out.old at (bytes_of (write_numbers numbers.now)) out.new result }
+    ensures upper_bound { result ≤ at + 5 * length numbers.now + 5 }
 {
     let mut place = write_number(out, at, numbers.len() as u32);
     let mut i = 0;

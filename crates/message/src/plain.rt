@@ -1,6 +1,5 @@
 // Steps without lists: a row of numbers, read at once.
 ghost use Rattle.std.specs.Prelude.{◌≤◌};
-ghost use Rattle.sheet.specs.Contract.{was};
 ghost use Rattle.message.specs.Inner.Reading.{PlainTaken};
 
 use crate::StepRead;
@@ -32,7 +31,7 @@ const SPECULAR_LIGHTING: [u32; BLOCK] = [
 
 pub fn morphology_at(message: &[u8], at: usize, used: usize) -> StepRead
     requires { used ≤ at }
-    ensures { PlainTaken 1 (was message) at used result }
+    ensures { PlainTaken 1 message.now at used result }
 {
     let block = block_at(message, at, MORPHOLOGY, 5);
     let w = block.words;
@@ -47,7 +46,7 @@ pub fn morphology_at(message: &[u8], at: usize, used: usize) -> StepRead
 
 pub fn arithmetic_at(message: &[u8], at: usize, used: usize) -> StepRead
     requires { used ≤ at }
-    ensures { PlainTaken 4 (was message) at used result }
+    ensures { PlainTaken 4 message.now at used result }
 {
     let block = block_at(message, at, ARITHMETIC, 7);
     let w = block.words;
@@ -69,7 +68,7 @@ pub fn arithmetic_at(message: &[u8], at: usize, used: usize) -> StepRead
 
 pub fn displacement_map_at(message: &[u8], at: usize, used: usize) -> StepRead
     requires { used ≤ at }
-    ensures { PlainTaken 6 (was message) at used result }
+    ensures { PlainTaken 6 message.now at used result }
 {
     let block = block_at(message, at, DISPLACEMENT_MAP, 8);
     let w = block.words;
@@ -92,7 +91,7 @@ pub fn displacement_map_at(message: &[u8], at: usize, used: usize) -> StepRead
 
 pub fn turbulence_at(message: &[u8], at: usize, used: usize) -> StepRead
     requires { used ≤ at }
-    ensures { PlainTaken 7 (was message) at used result }
+    ensures { PlainTaken 7 message.now at used result }
 {
     let block = block_at(message, at, TURBULENCE, 16);
     let w = block.words;
@@ -120,7 +119,7 @@ pub fn turbulence_at(message: &[u8], at: usize, used: usize) -> StepRead
 
 pub fn diffuse_lighting_at(message: &[u8], at: usize, used: usize) -> StepRead
     requires { used ≤ at }
-    ensures { PlainTaken 8 (was message) at used result }
+    ensures { PlainTaken 8 message.now at used result }
 {
     let block = block_at(message, at, DIFFUSE_LIGHTING, 11);
     let w = block.words;
@@ -141,7 +140,7 @@ pub fn diffuse_lighting_at(message: &[u8], at: usize, used: usize) -> StepRead
 
 pub fn specular_lighting_at(message: &[u8], at: usize, used: usize) -> StepRead
     requires { used ≤ at }
-    ensures { PlainTaken 9 (was message) at used result }
+    ensures { PlainTaken 9 message.now at used result }
 {
     let block = block_at(message, at, SPECULAR_LIGHTING, 12);
     let w = block.words;

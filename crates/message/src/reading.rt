@@ -1,6 +1,6 @@
 // Reading a message: once to see that it is whole and fits, then once more into the pool.
 ghost use Rattle.std.specs.Prelude.{◌≡◌, ◌≤◌, min, []};
-ghost use Rattle.sheet.specs.Contract.{was, became};
+ghost use Rattle.sheet.specs.Contract.{lent};
 ghost use Rattle.number.specs.Words.{words_at};
 ghost use Rattle.message.specs.Steps.{read_step};
 ghost use Rattle.message.specs.Answers.{recipe_of, ReadExactly};
@@ -33,7 +33,7 @@ pub struct StepsRead {
 // The step at a place, with `used` numbers in the pool before it.
 fn step_at(message: &[u8], at: usize, pool: &mut [f32], used: usize) -> StepRead
     requires { used ≤ at }
-    ensures { StepTaken (read_step used (words_at (was message) at)) (was message) used (was pool) (became pool) result }
+    ensures { StepTaken (read_step used (words_at message.now at)) message.now used pool.old pool.new result }
 {
     let Number::Value(code, next) = read_number(message, at) else {
         return no_step(used, Place::Wrong(at));
@@ -63,7 +63,7 @@ fn step_at(message: &[u8], at: usize, pool: &mut [f32], used: usize) -> StepRead
 
 // Reads `count` steps, and stores their numbers in the pool, as far as it goes.
 fn steps_at(message: &[u8], at: usize, count: usize, pool: &mut [f32]) -> StepsRead
-    ensures { StepsTaken (was message) at count (was pool) (became pool) result }
+    ensures { StepsTaken message.now at count pool.old pool.new result }
 {
     let mut steps = [blank(); STEP_LIMIT];
     let mut used = 0;
@@ -109,7 +109,7 @@ fn refused(answer: MessageAnswer) -> Reading
 
 // Whether `count` steps from `at` on are the whole of a message that is taken: 10, then 6, then 11.
 fn test(message: &[u8], at: usize, count: usize, room: usize) -> MessageAnswer
-    ensures { result ≡ steps_answer (was message) at count room }
+    ensures { result ≡ steps_answer message.now at count room }
 {
     let mut none = [0.0f32; 0];
     let tried = steps_at(message, at, count, &mut none);
@@ -141,7 +141,7 @@ fn room_of(n: usize) -> usize
 // Reads a message: its numbers stand in the pool end to end from its start, and the rest of the pool is as it was.
 // A refusal changes nothing.
 pub fn read(message: &[u8], pool: &mut [f32]) -> Reading
-    ensures { ReadExactly (was message) pool result }
+    ensures { ReadExactly message.now (lent pool.old pool.new) result }
 {
     let Number::Value(n, at) = reader::first(message) else {
         return refused(MessageAnswer::Malformed(0));

@@ -1,6 +1,5 @@
 // Steps as bytes: those that lie inside the lent slice are stored, and the place after all of them is given.
 ghost use Rattle.std.specs.Prelude.{[], ◌∷◌, ◌+◌, ◌≤◌, take};
-ghost use Rattle.sheet.specs.Contract.{was, became};
 ghost use Rattle.pool.specs.Pool.{numbers_of};
 ghost use Rattle.message.specs.Fields.{bits, write_numbers, write_field};
 ghost use Rattle.message.specs.Steps.{colour, function, matrix_in, function_in, parts_of, words_of};
@@ -20,7 +19,7 @@ use recipe::{Step, Work};
 // A kind and the numbers of a range.
 fn list_into(out: &mut [u8], at: usize, kind: u32, range: Numbers, pool: &[f32]) -> usize
     requires { at + choice_most ≤ 18446744073709551615 }
-    ensures { Wrote choice_most (kind ∷ write_numbers (numbers_of range (was pool))) (was out) at (became out) result }
+    ensures { Wrote choice_most (kind ∷ write_numbers (numbers_of range pool.now)) out.old at out.new result }
 {
     let next = write_number(out, at, kind);
     write_numbers(out, next, pool::part(range, pool))
@@ -29,7 +28,7 @@ fn list_into(out: &mut [u8], at: usize, kind: u32, range: Numbers, pool: &[f32])
 // The first `count` of a kind and two numbers.
 fn plain_into(out: &mut [u8], at: usize, kind: u32, first: f32, second: f32, count: usize) -> usize
     requires { (count ≤ 3) × (at + choice_most ≤ 18446744073709551615) }
-    ensures { Wrote choice_most (take count (kind ∷ bits first ∷ bits second ∷ [])) (was out) at (became out) result }
+    ensures { Wrote choice_most (take count (kind ∷ bits first ∷ bits second ∷ [])) out.old at out.new result }
 {
     let x = bits_of(first);
     let y = bits_of(second);
@@ -43,7 +42,7 @@ fn plain_into(out: &mut [u8], at: usize, kind: u32, first: f32, second: f32, cou
 
 fn matrix_into(out: &mut [u8], at: usize, matrix: ColorMatrix, pool: &[f32]) -> usize
     requires { at + choice_most ≤ 18446744073709551615 }
-    ensures { Wrote choice_most (write_field colour (matrix_in (was pool) matrix)) (was out) at (became out) result }
+    ensures { Wrote choice_most (write_field colour (matrix_in pool.now matrix)) out.old at out.new result }
 {
     match matrix {
         ColorMatrix::Matrix(range) => list_into(out, at, 0, range, pool),
@@ -55,7 +54,7 @@ fn matrix_into(out: &mut [u8], at: usize, matrix: ColorMatrix, pool: &[f32]) -> 
 
 fn function_into(out: &mut [u8], at: usize, transfer: TransferFunction, pool: &[f32]) -> usize
     requires { at + choice_most ≤ 18446744073709551615 }
-    ensures { Wrote choice_most (write_field function (function_in (was pool) transfer)) (was out) at (became out) result }
+    ensures { Wrote choice_most (write_field function (function_in pool.now transfer)) out.old at out.new result }
 {
     match transfer {
         TransferFunction::Identity => plain_into(out, at, 0, 0.0, 0.0, 1),
@@ -77,7 +76,7 @@ fn functions_into(
     pool: &[f32],
 ) -> usize
     requires { at + lists_most ≤ 18446744073709551615 }
-    ensures { Wrote lists_most (lists_of (was pool) (Work.ComponentTransfer 0 r g b a)) (was out) at (became out) result }
+    ensures { Wrote lists_most (lists_of pool.now (Work.ComponentTransfer 0 r g b a)) out.old at out.new result }
 {
     let green = function_into(out, at, r, pool);
     let blue = function_into(out, green, g, pool);
@@ -88,7 +87,7 @@ fn functions_into(
 // A kernel's numbers, and what comes after them.
 fn kernel_into(out: &mut [u8], at: usize, matrix: ConvolveMatrix, pool: &[f32]) -> usize
     requires { at + lists_most ≤ 18446744073709551615 }
-    ensures { Wrote lists_most (lists_of (was pool) (Work.ConvolveMatrix 0 matrix)) (was out) at (became out) result }
+    ensures { Wrote lists_most (lists_of pool.now (Work.ConvolveMatrix 0 matrix)) out.old at out.new result }
 {
     let range = matrix.matrix;
     let mode = matrix.edge_mode;
@@ -107,7 +106,7 @@ fn kernel_into(out: &mut [u8], at: usize, matrix: ConvolveMatrix, pool: &[f32]) 
 
 fn lists_into(out: &mut [u8], at: usize, work: Work, pool: &[f32]) -> usize
     requires { at + lists_most ≤ 18446744073709551615 }
-    ensures { Wrote lists_most (lists_of (was pool) work) (was out) at (became out) result }
+    ensures { Wrote lists_most (lists_of pool.now work) out.old at out.new result }
 {
     match work {
         Work::ColorMatrix(_, matrix) => matrix_into(out, at, matrix, pool),
@@ -120,7 +119,7 @@ fn lists_into(out: &mut [u8], at: usize, work: Work, pool: &[f32]) -> usize
 // Writes a step from `at` on.
 pub fn step_into(out: &mut [u8], at: usize, step: Step, pool: &[f32]) -> usize
     requires { at + step_most ≤ 18446744073709551615 }
-    ensures { Wrote step_most (words_of (parts_of (was pool) step)) (was out) at (became out) result }
+    ensures { Wrote step_most (words_of (parts_of pool.now step)) out.old at out.new result }
 {
     let work = step.work;
     let row = row_of(work, step.output);

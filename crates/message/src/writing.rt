@@ -1,6 +1,6 @@
 // Writing a recipe as a message: its ranges are tested, its bytes counted, and then written.
 ghost use Rattle.std.specs.Prelude.{◌≡◌, ◌≤◌, length};
-ghost use Rattle.sheet.specs.Contract.{was, became};
+ghost use Rattle.sheet.specs.Contract.{lent};
 ghost use Rattle.number.specs.Number.{Put};
 ghost use Rattle.recipe.specs.Tests.{step_limit};
 ghost use Rattle.message.specs.Answers.{message_of, write_answer, WrittenExactly};
@@ -21,7 +21,7 @@ pub struct Writing {
 // Stores the bytes of the message that lie inside `out`, and gives how many there are.
 fn message_into(out: &mut [u8], recipe: Recipe, pool: &[f32]) -> usize
     requires { recipe.count ≤ step_limit }
-    ensures { Put (was out) 0 (message_of recipe (was pool)) (became out) result }
+    ensures { Put out.old 0 (message_of recipe pool.now) out.new result }
 {
     let count = recipe.count;
     let mut place = write_number(out, 0, count as u32);
@@ -36,7 +36,7 @@ fn message_into(out: &mut [u8], recipe: Recipe, pool: &[f32]) -> usize
 // How many bytes the message has.
 fn length_of(recipe: Recipe, pool: &[f32]) -> usize
     requires { recipe.count ≤ step_limit }
-    ensures { result ≡ length (message_of recipe (was pool)) }
+    ensures { result ≡ length (message_of recipe pool.now) }
 {
     let mut nothing = [0u8; 0];
     message_into(&mut nothing, recipe, pool)
@@ -44,7 +44,7 @@ fn length_of(recipe: Recipe, pool: &[f32]) -> usize
 
 // 6 over 16 steps, then 3, then 11 where `room` is too little.
 fn test(recipe: Recipe, pool: &[f32], room: usize) -> MessageAnswer
-    ensures { result ≡ write_answer recipe (was pool) room }
+    ensures { result ≡ write_answer recipe pool.now room }
 {
     if STEP_LIMIT < recipe.count {
         return MessageAnswer::Steps;
@@ -61,7 +61,7 @@ fn test(recipe: Recipe, pool: &[f32], room: usize) -> MessageAnswer
 
 // Writes the message of a recipe, whose ranges lie in the pool, to the start of `out`. A refusal changes nothing.
 pub fn write(recipe: Recipe, pool: &[f32], out: &mut [u8]) -> Writing
-    ensures { WrittenExactly recipe (was pool) out result }
+    ensures { WrittenExactly recipe pool.now (lent out.old out.new) result }
 {
     let answer = test(recipe, pool, out.len());
     let MessageAnswer::Done = answer else {

@@ -5,7 +5,7 @@ mod operator;
 mod spread;
 
 ghost use Rattle.std.specs.Prelude.{◌≡◌, ◌<◌};
-ghost use Rattle.sheet.specs.Contract.{was, Filtered, Cleared};
+ghost use Rattle.sheet.specs.Contract.{lent, Filtered, Cleared};
 ghost use Rattle.morphology.specs.Morphology.{radius, radii_answer, answer, morphed, not_negative};
 
 pub use operator::MorphologyOperator;
@@ -60,8 +60,8 @@ pub fn apply(
     src: &mut [u8],
     scratch: &mut [u8],
 ) -> Answer
-    ensures filtered { Filtered (answer rx ry width height (was src) (was scratch)) result (morphed operator rx ry width height (was src)) src }
-    ensures cleared { Cleared 0 (answer rx ry width height (was src) (was scratch)) scratch }
+    ensures filtered { Filtered (answer rx ry width height src.old scratch.old) result (morphed operator rx ry width height src.old) (lent src.old src.new) }
+    ensures cleared { Cleared 0 (answer rx ry width height src.old scratch.old) (lent scratch.old scratch.new) }
 {
     let sheets = sheet::test2(width, height, src.len(), scratch.len());
     let tested = sheet::and_then(sheets, test(rx, ry));

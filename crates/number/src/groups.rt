@@ -1,6 +1,5 @@
 // Groups of seven bits, read and stored one by one.
 ghost use Rattle.std.specs.Prelude.{◌≡◌, ◌+◌, ◌≤◌, ◌<◌, set};
-ghost use Rattle.sheet.specs.Contract.{was, became};
 ghost use Rattle.number.specs.Number.{groups, groups_at, Put};
 ghost use Rattle.number.specs.Inner.Limit.{limit};
 
@@ -15,7 +14,7 @@ fn wide(byte: u8) -> u32
 // The number at `at`, of at most `more` groups beside the first.
 pub fn groups_at(message: &[u8], at: usize, more: usize) -> Number
     requires { more ≤ 4 }
-    ensures { result ≡ groups_at more (was message) at }
+    ensures { result ≡ groups_at more message.now at }
 {
     if message.len() <= at {
         return Number::Wrong(at);
@@ -53,7 +52,7 @@ fn narrow(n: u32) -> u8
 
 // Stores the byte at i, if there is such a place.
 fn put_byte(out: &mut [u8], i: usize, byte: u8)
-    ensures { became out ≡ set (was out) i byte }
+    ensures { out.new ≡ set out.old i byte }
 {
     if i < out.len() {
         out[i] = byte;
@@ -64,7 +63,7 @@ fn put_byte(out: &mut [u8], i: usize, byte: u8)
 pub fn put_groups(out: &mut [u8], at: usize, more: usize, n: u32) -> usize
     requires n_bound { n < limit more }
     requires more_bound { at + more < 18446744073709551615 }
-    ensures { Put (was out) at (groups more n) (became out) result }
+    ensures { Put out.old at (groups more n) out.new result }
 {
     let next = at + 1;
     if n < 128 {

@@ -6,7 +6,6 @@ pub mod reader;
 mod values;
 
 ghost use Rattle.std.specs.Prelude.{◌≡◌, ◌+◌, ◌≤◌};
-ghost use Rattle.sheet.specs.Contract.{was, became};
 ghost use Rattle.number.specs.Number.{number_at, number_bytes, Put};
 
 pub use values::{bits_of, bits_of_seed, double_of, float_of, high_half, low_half, seed_of};
@@ -22,7 +21,7 @@ pub enum Number {
 
 // The number at `at`.
 pub fn read_number(message: &[u8], at: usize) -> Number
-    ensures { result ≡ number_at (was message) at }
+    ensures { result ≡ number_at message.now at }
 {
     groups::groups_at(message, at, 4)
 }
@@ -30,7 +29,7 @@ pub fn read_number(message: &[u8], at: usize) -> Number
 // Stores those bytes of n, from `at` on, that lie inside `out`, and answers where they end: an empty slice measures them.
 pub fn write_number(out: &mut [u8], at: usize, n: u32) -> usize
     requires { at + 5 ≤ 18446744073709551615 }
-    ensures { Put (was out) at (number_bytes n) (became out) result }
+    ensures { Put out.old at (number_bytes n) out.new result }
 {
     groups::put_groups(out, at, 4, n)
 }

@@ -1,6 +1,5 @@
 // A message with a place in it.
 ghost use Rattle.std.specs.Prelude.{◌≡◌};
-ghost use Rattle.sheet.specs.Contract.{was};
 ghost use Rattle.number.specs.Number.{number_at};
 
 use crate::{Number, read_number};
@@ -38,7 +37,7 @@ pub fn moved<'a>(r: Reader<'a>, at: usize) -> Reader<'a>
 
 // The number that the message begins with.
 pub fn first(message: &[u8]) -> Number
-    ensures { result ≡ number_at (was message) 0 }
+    ensures { result ≡ number_at message.now 0 }
 {
     next(new(message))
 }

@@ -7,7 +7,7 @@ ghost use Rattle.floats.specs.Root.{sqrt_of};
 ghost use Rattle.floats.specs.Round.{round_to};
 ghost use Rattle.sheet.specs.declared.Answer.TheVariants.{Done};
 ghost use Rattle.sheet.specs.Size.{lengths_answer};
-ghost use Rattle.sheet.specs.Contract.{was};
+ghost use Rattle.sheet.specs.Contract.{lent, read_only};
 ghost use Rattle.sheet.specs.Tabulate.{zeros};
 ghost use Rattle.nuprikhen.specs.Called.{Called, pair_answer};
 
@@ -26,7 +26,7 @@ fn test(a: usize, b: usize) -> Answer
 // Each of xs as a byte.
 #[unsafe(no_mangle)]
 pub extern "C" fn nup_to_bytes(xs: &[f32], out: &mut [u8]) -> nup_answer
-    ensures { Called (pair_answer xs out) result (map (to_unsigned 8) (was xs)) out }
+    ensures { Called (pair_answer (read_only xs.now) (lent out.old out.new)) result (map (to_unsigned 8) xs.now) (lent out.old out.new) }
 {
     let tested = test(xs.len(), out.len());
     let Answer::Done = tested else {
@@ -43,7 +43,7 @@ pub extern "C" fn nup_to_bytes(xs: &[f32], out: &mut [u8]) -> nup_answer
 // Each of xs rounded, a half away from zero.
 #[unsafe(no_mangle)]
 pub extern "C" fn nup_round_to_i32s(xs: &[f32], out: &mut [i32]) -> nup_answer
-    ensures { Called (pair_answer xs out) result (map (round_to 31) (was xs)) out }
+    ensures { Called (pair_answer (read_only xs.now) (lent out.old out.new)) result (map (round_to 31) xs.now) (lent out.old out.new) }
 {
     let tested = test(xs.len(), out.len());
     let Answer::Done = tested else {
@@ -60,7 +60,7 @@ pub extern "C" fn nup_round_to_i32s(xs: &[f32], out: &mut [i32]) -> nup_answer
 // The square root of each of xs.
 #[unsafe(no_mangle)]
 pub extern "C" fn nup_sqrt32(xs: &[f32], out: &mut [f32]) -> nup_answer
-    ensures { Called (pair_answer xs out) result (map (sqrt_of binary32) (was xs)) out }
+    ensures { Called (pair_answer (read_only xs.now) (lent out.old out.new)) result (map (sqrt_of binary32) xs.now) (lent out.old out.new) }
 {
     let tested = test(xs.len(), out.len());
     let Answer::Done = tested else {
@@ -79,7 +79,7 @@ pub extern "C" fn nup_sqrt32(xs: &[f32], out: &mut [f32]) -> nup_answer
 // The square root of each of xs.
 #[unsafe(no_mangle)]
 pub extern "C" fn nup_sqrt64(xs: &[f64], out: &mut [f64]) -> nup_answer
-    ensures { Called (pair_answer xs out) result (map (sqrt_of binary64) (was xs)) out }
+    ensures { Called (pair_answer (read_only xs.now) (lent out.old out.new)) result (map (sqrt_of binary64) xs.now) (lent out.old out.new) }
 {
     let tested = test(xs.len(), out.len());
     let Answer::Done = tested else {
@@ -96,7 +96,7 @@ pub extern "C" fn nup_sqrt64(xs: &[f64], out: &mut [f64]) -> nup_answer
 // Each of xs rounded to the nearest f32.
 #[unsafe(no_mangle)]
 pub extern "C" fn nup_to_f32s(xs: &[f64], out: &mut [f32]) -> nup_answer
-    ensures { Called (pair_answer xs out) result (map (narrow_to binary32) (was xs)) out }
+    ensures { Called (pair_answer (read_only xs.now) (lent out.old out.new)) result (map (narrow_to binary32) xs.now) (lent out.old out.new) }
 {
     let tested = test(xs.len(), out.len());
     let Answer::Done = tested else {
@@ -113,7 +113,7 @@ pub extern "C" fn nup_to_f32s(xs: &[f64], out: &mut [f32]) -> nup_answer
 // dst takes src's bytes.
 #[unsafe(no_mangle)]
 pub extern "C" fn nup_copy(src: &[u8], dst: &mut [u8]) -> nup_answer
-    ensures { Called (pair_answer src dst) result (was src) dst }
+    ensures { Called (pair_answer (read_only src.now) (lent dst.old dst.new)) result src.now (lent dst.old dst.new) }
 {
     let tested = test(src.len(), dst.len());
     let Answer::Done = tested else {
@@ -126,7 +126,7 @@ pub extern "C" fn nup_copy(src: &[u8], dst: &mut [u8]) -> nup_answer
 // Every byte of dst becomes 0.
 #[unsafe(no_mangle)]
 pub extern "C" fn nup_clear(dst: &mut [u8]) -> nup_answer
-    ensures { Called Done result (zeros (length (was dst))) dst }
+    ensures { Called Done result (zeros (length dst.old)) (lent dst.old dst.new) }
 {
     sheet::clear(dst);
     told(Answer::Done)

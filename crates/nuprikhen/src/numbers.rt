@@ -1,13 +1,12 @@
 // Lent values as a range of numbers.
 ghost use Rattle.std.specs.Prelude.{◌≡◌};
-ghost use Rattle.sheet.specs.Contract.{was};
 ghost use Rattle.nuprikhen.specs.Numbers.{all_of};
 
 use pool::Numbers;
 
 // All the values as a range; a slice that is too long for one is refused 3 all the same.
 pub fn all_of(values: &[f32]) -> Numbers
-    ensures { result ≡ all_of (was values) }
+    ensures { result ≡ all_of values.now }
 {
     let n = values.len();
     let count = if n < 4294967295 { n as u32 } else { 4294967295 };

@@ -1,6 +1,6 @@
 // The colour matrix: a function for each of its cases.
 ghost use Rattle.std.specs.Prelude.{[]};
-ghost use Rattle.sheet.specs.Contract.{was};
+ghost use Rattle.sheet.specs.Contract.{lent};
 ghost use Rattle.color_matrix.specs.declared.ColorMatrix.TheVariants.{Matrix, Saturate, HueRotate, LuminanceToAlpha};
 ghost use Rattle.nuprikhen.specs.Colours.{Recoloured};
 ghost use Rattle.nuprikhen.specs.Numbers.{all_of};
@@ -11,7 +11,7 @@ use color_matrix::ColorMatrix;
 
 // A case that reads no pool.
 fn recolour(matrix: ColorMatrix, width: u32, height: u32, src: &mut [u8]) -> nup_answer
-    ensures { Recoloured matrix [] width height result src }
+    ensures { Recoloured matrix [] width height result (lent src.old src.new) }
 {
     told(color_matrix::apply(matrix, &[], width as usize, height as usize, src))
 }
@@ -19,7 +19,7 @@ fn recolour(matrix: ColorMatrix, width: u32, height: u32, src: &mut [u8]) -> nup
 // A matrix of twenty numbers on straight colour, in place.
 #[unsafe(no_mangle)]
 pub extern "C" fn nup_color_matrix(width: u32, height: u32, m: &[f32], src: &mut [u8]) -> nup_answer
-    ensures { Recoloured (Matrix (all_of (was m))) (was m) width height result src }
+    ensures { Recoloured (Matrix (all_of m.now)) m.now width height result (lent src.old src.new) }
 {
     let matrix = ColorMatrix::Matrix(all_of(m));
     told(color_matrix::apply(matrix, m, width as usize, height as usize, src))
@@ -28,7 +28,7 @@ pub extern "C" fn nup_color_matrix(width: u32, height: u32, m: &[f32], src: &mut
 // Saturation of straight colour, in place.
 #[unsafe(no_mangle)]
 pub extern "C" fn nup_saturate(width: u32, height: u32, v: f32, src: &mut [u8]) -> nup_answer
-    ensures { Recoloured (Saturate v) [] width height result src }
+    ensures { Recoloured (Saturate v) [] width height result (lent src.old src.new) }
 {
     recolour(ColorMatrix::Saturate(v), width, height, src)
 }
@@ -42,7 +42,7 @@ pub extern "C" fn nup_hue_rotate(
     sine: f32,
     src: &mut [u8],
 ) -> nup_answer
-    ensures { Recoloured (HueRotate cosine sine) [] width height result src }
+    ensures { Recoloured (HueRotate cosine sine) [] width height result (lent src.old src.new) }
 {
     recolour(ColorMatrix::HueRotate(cosine, sine), width, height, src)
 }
@@ -50,7 +50,7 @@ pub extern "C" fn nup_hue_rotate(
 // No colour, and the luminance of straight colour as alpha, in place.
 #[unsafe(no_mangle)]
 pub extern "C" fn nup_luminance_to_alpha(width: u32, height: u32, src: &mut [u8]) -> nup_answer
-    ensures { Recoloured LuminanceToAlpha [] width height result src }
+    ensures { Recoloured LuminanceToAlpha [] width height result (lent src.old src.new) }
 {
     recolour(ColorMatrix::LuminanceToAlpha, width, height, src)
 }

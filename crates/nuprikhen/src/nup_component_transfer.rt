@@ -1,6 +1,6 @@
 // Component transfer, with each channel's function as a number and its values.
 ghost use Rattle.std.specs.Prelude.{◌≡◌};
-ghost use Rattle.sheet.specs.Contract.{was, Filtered};
+ghost use Rattle.sheet.specs.Contract.{lent, read_only, Filtered};
 ghost use Rattle.component_transfer.specs.ComponentTransfer.{functions_answer};
 ghost use Rattle.nuprikhen.specs.Called.{Called};
 ghost use Rattle.nuprikhen.specs.Numbers.{linear_of, function_of, tested_by, transfer_answer, transfer_bytes};
@@ -11,7 +11,7 @@ use component_transfer::TransferFunction;
 use sheet::{Answer, Refusal};
 
 fn linear_of(values: &[f32]) -> TransferFunction
-    ensures { result ≡ linear_of (was values) }
+    ensures { result ≡ linear_of values.now }
 {
     if values.len() == 2 {
         return TransferFunction::Linear(values[0], values[1]);
@@ -21,7 +21,7 @@ fn linear_of(values: &[f32]) -> TransferFunction
 
 // The function of this number.
 fn function_of(kind: u8, values: &[f32]) -> TransferFunction
-    ensures { result ≡ function_of kind (was values) }
+    ensures { result ≡ function_of kind values.now }
 {
     let entries = all_of(values);
     if kind == 0 {
@@ -38,7 +38,7 @@ fn function_of(kind: u8, values: &[f32]) -> TransferFunction
 
 // Tests 3, 4 and 5 of the function of this number.
 fn test_numbered(kind: u8, values: &[f32]) -> Answer
-    ensures { result ≡ tested_by kind values }
+    ensures { result ≡ tested_by kind (read_only values.now) }
 {
     if kind < 3 {
         return component_transfer::test_function(function_of(kind, values), values);
@@ -63,7 +63,7 @@ fn test_all(
     alpha: u8,
     a: &[f32],
 ) -> Answer
-    ensures { result ≡ functions_answer (tested_by red r) (tested_by green g) (tested_by blue b) (tested_by alpha a) }
+    ensures { result ≡ functions_answer (tested_by red (read_only r.now)) (tested_by green (read_only g.now)) (tested_by blue (read_only b.now)) (tested_by alpha (read_only a.now)) }
 {
     component_transfer::of_all(
         test_numbered(red, r),
@@ -87,7 +87,7 @@ fn apply_numbered(
     height: usize,
     src: &mut [u8],
 ) -> Answer
-    ensures { Filtered (transfer_answer red r green g blue b alpha a width height src) result (transfer_bytes red r green g blue b alpha a src) src }
+    ensures { Filtered (transfer_answer red (read_only r.now) green (read_only g.now) blue (read_only b.now) alpha (read_only a.now) width height (lent src.old src.new)) result (transfer_bytes red (read_only r.now) green (read_only g.now) blue (read_only b.now) alpha (read_only a.now) (lent src.old src.new)) (lent src.old src.new) }
 {
     let sheets = sheet::test1(width, height, src.len());
     let Answer::Done = sheets else {
@@ -128,7 +128,7 @@ pub extern "C" fn nup_component_transfer(
     a: &[f32],
     src: &mut [u8],
 ) -> nup_answer
-    ensures { Called (transfer_answer red r green g blue b alpha a width height src) result (transfer_bytes red r green g blue b alpha a src) src }
+    ensures { Called (transfer_answer red (read_only r.now) green (read_only g.now) blue (read_only b.now) alpha (read_only a.now) width height (lent src.old src.new)) result (transfer_bytes red (read_only r.now) green (read_only g.now) blue (read_only b.now) alpha (read_only a.now) (lent src.old src.new)) (lent src.old src.new) }
 {
     told(apply_numbered(
         red,

@@ -1,5 +1,5 @@
 // The arithmetic composition.
-ghost use Rattle.sheet.specs.Contract.{was};
+ghost use Rattle.sheet.specs.Contract.{lent};
 ghost use Rattle.composite.specs.Composite.{answer, composed};
 ghost use Rattle.composite.specs.Arithmetic.{factors};
 ghost use Rattle.nuprikhen.specs.Called.{Called};
@@ -19,7 +19,7 @@ pub extern "C" fn nup_arithmetic(
     src2: &[u8],
     dest: &mut [u8],
 ) -> nup_answer
-    ensures { Called (answer k1 k2 k3 k4 width height (was src1) (was src2) (was dest)) result (composed (factors k1 k2 k3 k4) (was src1) (was src2)) dest }
+    ensures { Called (answer k1 k2 k3 k4 width height src1.now src2.now dest.old) result (composed (factors k1 k2 k3 k4) src1.now src2.now) (lent dest.old dest.new) }
 {
     told(composite::arithmetic(
         k1,

@@ -1,6 +1,6 @@
 // The convolve matrix, with the edge mode and whether alpha is preserved as numbers.
 ghost use Rattle.std.specs.Prelude.{◌≡◌};
-ghost use Rattle.sheet.specs.Contract.{was, Filtered, Cleared};
+ghost use Rattle.sheet.specs.Contract.{lent, read_only, Filtered, Cleared};
 ghost use Rattle.convolve_matrix.specs.ConvolveMatrix.{convolved};
 ghost use Rattle.nuprikhen.specs.Convolving.{edge_of, named_edge, convolve_answer, matrix_of, Convolved};
 
@@ -44,8 +44,8 @@ fn apply_named(
     src: &mut [u8],
     scratch: &mut [u8],
 ) -> Answer
-    ensures filtered { Filtered (convolve_answer named matrix (was kernel) width height (was src) (was scratch)) result (convolved matrix (was kernel) width height (was src)) src }
-    ensures cleared { Cleared 0 (convolve_answer named matrix (was kernel) width height (was src) (was scratch)) scratch }
+    ensures filtered { Filtered (convolve_answer named matrix kernel.now width height src.old scratch.old) result (convolved matrix kernel.now width height src.old) (lent src.old src.new) }
+    ensures cleared { Cleared 0 (convolve_answer named matrix kernel.now width height src.old scratch.old) (lent scratch.old scratch.new) }
 {
     let Answer::Done = named else {
         let sheets = sheet::test2(width, height, src.len(), scratch.len());
@@ -74,7 +74,7 @@ pub extern "C" fn nup_convolve_matrix(
     src: &mut [u8],
     scratch: &mut [u8],
 ) -> nup_answer
-    ensures { Convolved (named_edge edge preserve_alpha) (matrix_of columns rows target_x target_y (was kernel) divisor bias edge preserve_alpha) kernel width height result src scratch }
+    ensures { Convolved (named_edge edge preserve_alpha) (matrix_of columns rows target_x target_y kernel.now divisor bias edge preserve_alpha) (read_only kernel.now) width height result (lent src.old src.new) (lent scratch.old scratch.new) }
 {
     let matrix = ConvolveMatrix {
         columns,

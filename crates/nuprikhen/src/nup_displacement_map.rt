@@ -4,6 +4,7 @@ ghost use Rattle.sheet.specs.Answer.{refusal, and_then};
 ghost use Rattle.displacement_map.specs.DisplacementMap.{scales_answer};
 ghost use Rattle.nuprikhen.specs.Channels.{channel_of, Displaced};
 ghost use Rattle.nuprikhen.specs.Inner.Numbered.{DisplacedBy};
+ghost use Rattle.sheet.specs.Contract.{lent, read_only};
 
 use crate::{nup_answer, told};
 use displacement_map::ColorChannel;
@@ -44,7 +45,7 @@ fn apply_numbered(
     map: &[u8],
     dest: &mut [u8],
 ) -> Answer
-    ensures { DisplacedBy x y sx sy scale width height src map result dest }
+    ensures { DisplacedBy x y sx sy scale width height (read_only src.now) (read_only map.now) result (lent dest.old dest.new) }
 {
     if 3 < x {
         let sheets = sheet::test3(width, height, src.len(), map.len(), dest.len());
@@ -73,7 +74,7 @@ pub extern "C" fn nup_displacement_map(
     map: &[u8],
     dest: &mut [u8],
 ) -> nup_answer
-    ensures { Displaced x_channel y_channel sx sy scale width height src map result dest }
+    ensures { Displaced x_channel y_channel sx sy scale width height (read_only src.now) (read_only map.now) result (lent dest.old dest.new) }
 {
     told(apply_numbered(
         x_channel,

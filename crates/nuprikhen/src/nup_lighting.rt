@@ -1,6 +1,7 @@
 // Diffuse and specular lighting, with the light as a number.
 ghost use Rattle.std.specs.Prelude.{◌≡◌};
 ghost use Rattle.nuprikhen.specs.Lights.{light_of, color_of, DiffuseLit, SpecularLit};
+ghost use Rattle.sheet.specs.Contract.{lent, read_only};
 
 use crate::{nup_answer, told};
 use lighting::{Color, LightSource};
@@ -35,7 +36,7 @@ pub extern "C" fn nup_diffuse_lighting(
     src: &[u8],
     dest: &mut [u8],
 ) -> nup_answer
-    ensures { DiffuseLit (light_of light x y z) surface_scale diffuse_constant (color_of red green blue) width height src result dest }
+    ensures { DiffuseLit (light_of light x y z) surface_scale diffuse_constant (color_of red green blue) width height (read_only src.now) result (lent dest.old dest.new) }
 {
     told(lighting::diffuse_lighting(
         light_of(light, x, y, z),
@@ -67,7 +68,7 @@ pub extern "C" fn nup_specular_lighting(
     src: &[u8],
     dest: &mut [u8],
 ) -> nup_answer
-    ensures { SpecularLit (light_of light x y z) surface_scale specular_constant specular_exponent (color_of red green blue) width height src result dest }
+    ensures { SpecularLit (light_of light x y z) surface_scale specular_constant specular_exponent (color_of red green blue) width height (read_only src.now) result (lent dest.old dest.new) }
 {
     told(lighting::specular_lighting(
         light_of(light, x, y, z),

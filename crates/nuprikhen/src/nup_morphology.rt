@@ -1,6 +1,6 @@
 // Morphology, with the operator as a number.
 ghost use Rattle.std.specs.Prelude.{◌≡◌};
-ghost use Rattle.sheet.specs.Contract.{was, Filtered, Cleared};
+ghost use Rattle.sheet.specs.Contract.{lent, Filtered, Cleared};
 ghost use Rattle.morphology.specs.Morphology.{morphed};
 ghost use Rattle.nuprikhen.specs.Operators.{operator_of, named_operator, morphology_answer, Morphed};
 
@@ -38,8 +38,8 @@ fn apply_named(
     src: &mut [u8],
     scratch: &mut [u8],
 ) -> Answer
-    ensures filtered { Filtered (morphology_answer named rx ry width height (was src) (was scratch)) result (morphed operator rx ry width height (was src)) src }
-    ensures cleared { Cleared 0 (morphology_answer named rx ry width height (was src) (was scratch)) scratch }
+    ensures filtered { Filtered (morphology_answer named rx ry width height src.old scratch.old) result (morphed operator rx ry width height src.old) (lent src.old src.new) }
+    ensures cleared { Cleared 0 (morphology_answer named rx ry width height src.old scratch.old) (lent scratch.old scratch.new) }
 {
     let Answer::Done = named else {
         let sheets = sheet::test2(width, height, src.len(), scratch.len());
@@ -60,7 +60,7 @@ pub extern "C" fn nup_morphology(
     src: &mut [u8],
     scratch: &mut [u8],
 ) -> nup_answer
-    ensures { Morphed op rx ry width height result src scratch }
+    ensures { Morphed op rx ry width height result (lent src.old src.new) (lent scratch.old scratch.new) }
 {
     told(apply_named(
         test_named(op),

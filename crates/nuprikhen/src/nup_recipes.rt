@@ -3,6 +3,7 @@ ghost use Rattle.std.specs.Prelude.{◌≡◌};
 ghost use Rattle.filter.specs.Call.{call};
 ghost use Rattle.nuprikhen.specs.Recipes.{kind_of, RunCalled, ReachCalled};
 ghost use Rattle.nuprikhen.specs.Inner.Recipes.{RanByKind, RunTold, ReachedByKind, one_if, ReachTold};
+ghost use Rattle.sheet.specs.Contract.{lent, read_only};
 
 use filter::{Kind, ReachAnswer, Recipe};
 use message::MessageAnswer;
@@ -71,7 +72,7 @@ fn run_by_kind(
     slot3: &mut [u8],
     scratch: &mut [u8],
 ) -> Answer
-    ensures { RanByKind kind (call recipe (kind_of kind) pool size source slot1 slot2 slot3 scratch) result }
+    ensures { RanByKind kind (call recipe (kind_of kind) (read_only pool.now) size (read_only source.now) (lent slot1.old slot1.new) (lent slot2.old slot2.new) (lent slot3.old slot3.new) (lent scratch.old scratch.new)) result }
 {
     if 1 < kind {
         return Answer::Refused(Refusal::Range, 0);
@@ -102,7 +103,7 @@ pub extern "C" fn nup_run(
     slot3: &mut [u8],
     scratch: &mut [u8],
 ) -> nup_run_answer
-    ensures { RunCalled message kind width height source slot1 slot2 slot3 scratch result }
+    ensures { RunCalled (read_only message.now) kind width height (read_only source.now) (lent slot1.old slot1.new) (lent slot2.old slot2.new) (lent slot3.old slot3.new) (lent scratch.old scratch.new) result }
 {
     let mut pool = [0.0f32; POOL];
     let reading = message::read(message, &mut pool);
@@ -142,7 +143,7 @@ fn reaches_by_kind(
     slot3: &[u8],
     scratch: &[u8],
 ) -> ReachAnswer
-    ensures { ReachedByKind kind (call recipe (kind_of kind) pool size source slot1 slot2 slot3 scratch) result }
+    ensures { ReachedByKind kind (call recipe (kind_of kind) (read_only pool.now) size (read_only source.now) (read_only slot1.now) (read_only slot2.now) (read_only slot3.now) (read_only scratch.now)) result }
 {
     if 1 < kind {
         return ReachAnswer {
@@ -189,7 +190,7 @@ pub extern "C" fn nup_reaches(
     slot3: &[u8],
     scratch: &[u8],
 ) -> nup_reach_answer
-    ensures { ReachCalled message kind width height source slot1 slot2 slot3 scratch result }
+    ensures { ReachCalled (read_only message.now) kind width height (read_only source.now) (read_only slot1.now) (read_only slot2.now) (read_only slot3.now) (read_only scratch.now) result }
 {
     let mut pool = [0.0f32; POOL];
     let reading = message::read(message, &mut pool);

@@ -1,6 +1,6 @@
 // Turbulence, with stitching and the kind as numbers.
 ghost use Rattle.std.specs.Prelude.{◌≡◌};
-ghost use Rattle.sheet.specs.Contract.{was, Filtered};
+ghost use Rattle.sheet.specs.Contract.{lent, Filtered};
 ghost use Rattle.turbulence.specs.Turbulence.{drawn};
 ghost use Rattle.nuprikhen.specs.Noise.{turbulence_of, named_kind, noise_answer, Drawn};
 
@@ -30,7 +30,7 @@ fn apply_named(
     height: usize,
     dest: &mut [u8],
 ) -> Answer
-    ensures { Filtered (noise_answer stitch kind t width height (was dest)) result (drawn t width height) dest }
+    ensures { Filtered (noise_answer stitch kind t width height dest.old) result (drawn t width height) (lent dest.old dest.new) }
 {
     let sheets = sheet::test1(width, height, dest.len());
     let tested = sheet::and_then(sheets, turbulence::test(t));
@@ -58,7 +58,7 @@ pub extern "C" fn nup_turbulence(
     kind: u8,
     dest: &mut [u8],
 ) -> nup_answer
-    ensures { Drawn stitch_tiles kind (turbulence_of offset_x offset_y sx sy base_frequency_x base_frequency_y num_octaves seed kind) width height result dest }
+    ensures { Drawn stitch_tiles kind (turbulence_of offset_x offset_y sx sy base_frequency_x base_frequency_y num_octaves seed kind) width height result (lent dest.old dest.new) }
 {
     let t = Turbulence {
         offset_x: offset_x,

@@ -1,20 +1,26 @@
 -- The one shape of a filter's contract: its answer and every lent element are fixed by definitions.
 use Rattle.std.specs.Prelude.{◌≡◌, List, length}
-use denote.Triple.Both.{Both}
-use Rattle.std.specs.Borrow.{Bor}
 use Rattle.sheet.specs.declared.Answer.{Answer}
 use Rattle.sheet.specs.Answer.{on_done}
 use Rattle.sheet.specs.Tabulate.{repeated}
 
 -- a lent slice: its elements at the call, and as the function returns
-abbrev pub Lent : Type 0 → Type 0
-Lent A = Both (Bor (List A)) (Bor (List A))
+pub record Lent (A : Type 0) : Type 0 where
+  pub at_call : List A
+  pub at_return : List A
+
+abbrev pub lent : {A : Type 0} → (at_call at_return : List A) → Lent A
+lent at_call at_return = record { at_call = at_call; at_return = at_return }
+
+-- a slice that is lent to be read alone
+abbrev pub read_only : {A : Type 0} → List A → Lent A
+read_only xs = lent xs xs
 
 abbrev pub was : {A : Type 0} → Lent A → List A
-was s = s.entry.now
+was s = s.at_call
 
 abbrev pub became : {A : Type 0} → Lent A → List A
-became s = s.exit.now
+became s = s.at_return
 
 -- on Done the slice holds `new`, and on a refusal no element of it changed
 pub record Holds {A : Type 0} (answer : Answer) (new : List A) (s : Lent A) : Type 0 where

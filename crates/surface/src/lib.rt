@@ -3,7 +3,6 @@
 
 ghost use Rattle.std.specs.Prelude.{◌≡◌, cond, ℕ, ◌+◌, ◌*◌, ◌≤◌, ◌<◌, length, get_or};
 ghost use Rattle.std.proofs.Math.IntN.{sub_ℕ};
-ghost use Rattle.sheet.specs.Contract.{was, became};
 ghost use Rattle.surface.specs.Surface as Surface;
 ghost use Rattle.surface.specs.Inner.Lines.{in_line, Inside, Placed, wide_sum, StoredOf, Columns, factor_of, weighted_in, normal_in, normal_of};
 
@@ -150,7 +149,7 @@ fn gather(
 )
     requires placed { Placed strip × (length src.now ≡ 4 * strip.width * strip.height) × (y < strip.height) }
     requires count_in_bounds { (at + strip.count ≤ length sums.old) × (at + strip.count ≤ length above.old) × (at + strip.count ≤ length below.old) }
-    ensures { StoredOf strip (was src) y (strip.left + 1) strip.count at (was sums) (was above) (was below) (became sums) (became above) (became below) }
+    ensures { StoredOf strip src.now y (strip.left + 1) strip.count at sums.old above.old below.old sums.new above.new below.new }
 {
     let rows = Line {
         at: y,
@@ -181,7 +180,7 @@ fn column_before(
     requires placed { Placed strip × (length src.now ≡ 4 * strip.width * strip.height) × (y < strip.height) }
     requires in_bounds { (1 < length sums.old) × (1 < length above.old) × (1 < length below.old) }
     requires sums_value { (get_or sums.old 1 0 ≡ wide_sum strip.width strip.height src.now y (strip.left + 1)) × (get_or sums.old 1 0 ≤ 1020) }
-    ensures { StoredOf strip (was src) y strip.left 1 0 (was sums) (was above) (was below) (became sums) (became above) (became below) }
+    ensures { StoredOf strip src.now y strip.left 1 0 sums.old above.old below.old sums.new above.new below.new }
 {
     if strip.left == 0 {
         sums[0] = sums[1];
@@ -210,7 +209,7 @@ fn column_after(
     requires placed { Placed strip × (length src.now ≡ 4 * strip.width * strip.height) × (y < strip.height) }
     requires count_in_bounds { (strip.count + 2 ≤ length sums.old) × (strip.count + 2 ≤ length above.old) × (strip.count + 2 ≤ length below.old) }
     requires count_value { (get_or sums.old strip.count 0 ≡ wide_sum strip.width strip.height src.now y (strip.left + strip.count)) × (get_or sums.old strip.count 0 ≤ 1020) }
-    ensures { StoredOf strip (was src) y (strip.left + strip.count + 1) 1 (strip.count + 1) (was sums) (was above) (was below) (became sums) (became above) (became below) }
+    ensures { StoredOf strip src.now y (strip.left + strip.count + 1) 1 (strip.count + 1) sums.old above.old below.old sums.new above.new below.new }
 {
     let count = strip.count;
     let column = Strip {
@@ -239,8 +238,8 @@ pub fn columns(
 )
     requires placed { Placed strip × (length src.now ≡ 4 * strip.width * strip.height) × (y < strip.height) }
     requires count_in_bounds { (strip.count + 2 ≤ length sums.old) × (strip.count + 2 ≤ length above.old) × (strip.count + 2 ≤ length below.old) }
-    ensures columns { Columns strip.count (became sums) (became above) (became below) }
-    ensures by_index { (i : ℕ) → i < strip.count → normal_in strip (became sums) (became above) (became below) i y ≡ normal_of strip (was src) y i }
+    ensures columns { Columns strip.count sums.new above.new below.new }
+    ensures by_index { (i : ℕ) → i < strip.count → normal_in strip sums.new above.new below.new i y ≡ normal_of strip src.now y i }
 {
     gather(src, strip, y, 1, sums, above, below);
     column_before(src, strip, y, sums, above, below);
@@ -250,7 +249,7 @@ pub fn columns(
 // The alphas of three columns of a row by the weights 1, 2, 1.
 fn weighted_in(row: &[u8], i: usize) -> u16
     requires { i + 2 < length row.now }
-    ensures { (result ≡ weighted_in (was row) i) × (result ≤ 1020) }
+    ensures { (result ≡ weighted_in row.now i) × (result ≤ 1020) }
 {
     wide(row[i]) + 2 * wide(row[i + 1]) + wide(row[i + 2])
 }
@@ -280,7 +279,7 @@ pub fn normal_in(
     y: usize,
 ) -> Normal
     requires { Placed strip × Columns strip.count sums.now above.now below.now × (i < strip.count) × (y < strip.height) }
-    ensures { result ≡ normal_in strip (was sums) (was above) (was below) i y }
+    ensures { result ≡ normal_in strip sums.now above.now below.now i y }
 {
     let side = at_edge(column(strip, i), strip.width as u16);
     let end = at_edge(y as u16, strip.height as u16);

@@ -1,7 +1,6 @@
 // The pixels, one by one.
 ghost use Rattle.std.specs.Prelude.{◌≡◌, ◌+◌, ◌*◌, ◌≤◌, ◌<◌, T, length};
 ghost use Rattle.floats.specs.Inner.Steps.{up_to};
-ghost use Rattle.sheet.specs.Contract.{was, became};
 ghost use Rattle.sheet.specs.Size.{Sized, side_limit};
 ghost use Rattle.sheet.specs.Inner.Strips.{strip_limit, Worked};
 ghost use Rattle.turbulence.specs.Turbulence.{point_on, scaled_sum, byte_of, drawn};
@@ -80,7 +79,7 @@ fn pixel<'a>(
     i: usize,
 ) -> Straight
     requires { (t.num_octaves ≤ 8) × (i < strip_limit) }
-    ensures { PixelIn t (was selector) (was gx) (was gy) (was lower) (was upper) (was across) (was cells) (was fractions) (was curves) i result.0 }
+    ensures { PixelIn t selector.now gx.now gy.now lower.now upper.now across.now cells.now fractions.now curves.now i result.0 }
 {
     let sum = noise::turbulence(
         t, selector, gx, gy, lower, upper, across, cells, fractions, curves, i,
@@ -110,7 +109,7 @@ fn draw_row(
 )
     requires num_octaves_bound { (t.num_octaves ≤ 8) × (y < side_limit) × (first + count ≤ width) × (count ≤ strip_limit) }
     requires count_in_bounds { (4 * (y * width + first) + 4 * count ≤ length dest.old) × ColumnsOf t selector.now first count lower.now upper.now across.now }
-    ensures { RowDrawn t (was selector) (was gx) (was gy) width y first count (was dest) (became dest) }
+    ensures { RowDrawn t selector.now gx.now gy.now width y first count dest.old dest.new }
 {
     let row = noise::row_at(point_on(t.offset_y, t.sy, t.base_frequency_y, y));
     let start = 4 * (y * width + first);

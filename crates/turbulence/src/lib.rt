@@ -8,7 +8,7 @@ mod random;
 mod tables;
 
 ghost use Rattle.std.specs.Prelude.{◌≡◌};
-ghost use Rattle.sheet.specs.Contract.{was, Filtered};
+ghost use Rattle.sheet.specs.Contract.{lent, Filtered};
 ghost use Rattle.turbulence.specs.Turbulence.{both_finite, both_within, all_finite, all_in_range, turbulence_answer, answer, drawn};
 
 use sheet::{Answer, Refusal};
@@ -94,7 +94,7 @@ pub fn test(t: Turbulence) -> Answer
 //
 // `dest` pixels will have an unpremultiplied alpha.
 pub fn apply(t: Turbulence, width: usize, height: usize, dest: &mut [u8]) -> Answer
-    ensures { Filtered (answer t width height (was dest)) result (drawn t width height) dest }
+    ensures { Filtered (answer t width height dest.old) result (drawn t width height) (lent dest.old dest.new) }
 {
     let sheets = sheet::test1(width, height, dest.len());
     let tested = sheet::and_then(sheets, test(t));

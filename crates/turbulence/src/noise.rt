@@ -1,7 +1,6 @@
 // The noise at a point, for the four channels together.
 ghost use Rattle.std.specs.Prelude.{◌≡◌, ◌+◌, ◌≤◌, ◌<◌, length, get_or};
 ghost use Rattle.std.specs.Float.{nan};
-ghost use Rattle.sheet.specs.Contract.{was};
 ghost use Rattle.sheet.specs.Inner.Strips.{strip_limit, Changed};
 ghost use Rattle.turbulence.specs.Noise as Noise;
 ghost use Rattle.turbulence.specs.Inner.Rows.{RowAt, fraction_in};
@@ -202,7 +201,7 @@ pub fn turbulence(
     i: usize,
 ) -> Channels
     requires { (t.num_octaves ≤ 8) × (i < strip_limit) }
-    ensures { SumIn t (was selector) (was gx) (was gy) (was lower) (was upper) (was across) (was cells) (was fractions) (was curves) i result }
+    ensures { SumIn t selector.now gx.now gy.now lower.now upper.now across.now cells.now fractions.now curves.now i result }
 {
     let octaves = t.num_octaves as usize;
     let start = i * octaves;
