@@ -21,11 +21,11 @@ test_start p l = record { within = zero-le; same = refl }
 
 -- number i is tested, with the result t
 module _ {p : Float → Bool} {l : List Float} {i : ℕ} (r : Testing p l i) {t : Bool} (d : Float) where
-  pub test_stops : i < length l → t ≡ p (get_or l i d) → not t ≡ true → false ≡ all p l
+  pub test_stops : i < length l → t ≡ p (get_or l i d) → t ≡ false → false ≡ all p l
   unfolding all
   test_stops h e f = let z : all p (drop i l) ≡ false = rw (drop-cons l i d h, denied e f) in sym z ∙ r.same
 
-  pub test_next : i < length l → t ≡ p (get_or l i d) → not t ≡ false → Testing p l (i + 1)
+  pub test_next : i < length l → t ≡ p (get_or l i d) → t ≡ true → Testing p l (i + 1)
   unfolding all
   test_next h e f =
       let z : all p (drop (i + 1) l) ≡ all p (drop i l) = rw (add-one, drop-cons l i d h, allowed e f) in

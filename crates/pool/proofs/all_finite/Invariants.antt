@@ -1,0 +1,12 @@
+-- What holds of all numbers is what holds of those not passed yet.
+use Prim.Native.Nat.{◌-◌}
+use lib.ListN.{length}
+use lib.Ieee.Scale.{finite}
+use Rattle.pool.proofs.Each.{Testing}
+use Rattle.pool.proofs.all_finite.Given as goal
+
+abbrev pub invariant-loop-i : goal.invariant-loop-i
+invariant-loop-i l = Testing finite l.numbers l.i
+
+abbrev pub decreases-loop-i : goal.decreases-loop-i
+decreases-loop-i l = length l.numbers - l.i
