@@ -1,5 +1,5 @@
 -- A target lies within D less one of its own column or row, and far inside the range of an `i32`. Assumes nothing.
-use Rattle.std.proofs.Common.{◌≡◌, ℕ, zero, suc, ◌+◌, ◌-◌, ◌*◌, ◌/◌, ◌%◌, ◌^◌, ◌<◌, ◌≤◌, Bool, true, false, cond, not, ◌&&◌, T, ltb, leb, ℤ, pos, negsuc, ◌-ℤ◌, nat_abs, sym, refl, ap, ◌∙◌, subst, le_of_lt, mul-le-mul_right, mod-lt, zero-lt-suc, suc-mul, div-lt_iff_lt-mul, mul-le-mul, lt_of_mul-lt-mul_right, mul-le-mul_left, mul-pos, one-mul, div-add-mod', mul-one, arith, lit<, lit≤, ltb→lt, leb→le, nltb→le}
+use Rattle.std.proofs.Common.{◌≡◌, ℕ, zero, suc, ◌+◌, ◌-◌, ◌*◌, ◌%◌, ◌^◌, ◌<◌, ◌≤◌, Bool, true, false, cond, not, ◌&&◌, T, ltb, leb, ℤ, pos, negsuc, ◌-ℤ◌, nat_abs, sym, refl, ap, ◌∙◌, subst, le_of_lt, mul-le-mul_right, mod-lt, zero-lt-suc, suc-mul, div-lt_iff_lt-mul, mul-le-mul, lt_of_mul-lt-mul_right, mul-le-mul_left, mul-pos, one-mul, div-add-mod', mul-one, arith, lit<, lit≤, ltb→lt, leb→le, nltb→le}
 use lib.Ieee.{Float, nan, inf, fin, binary32, up, down, round, sum, add, sub, div, of_int, of_bits}
 use lib.Ieee.Back.{round_whole}
 use lib.Ieee.Exact.{HasValue}

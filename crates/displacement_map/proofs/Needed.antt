@@ -1,7 +1,7 @@
 -- No byte of the map that a byte of the result reads is read in vain: by sx = sy = 1 and scale = 2 a byte 128 leaves the place, and a byte 255 moves it by one. And every byte of the
 -- picture to which a map sends a byte is needed. docs/LAW.md counts bytes of the picture all the same that no map sends it to: the columns and rows at D itself, which is one more than any
 -- target's distance (Distance.target_near), and those between the 256 targets where |s * scale| is above 255.
-use Rattle.std.proofs.Common.{◌≡◌, ℕ, suc, ◌+◌, ◌-◌, ◌*◌, ◌/◌, ◌%◌, ◌<◌, ◌≤◌, Bool, true, false, cond, T, ltb, leb, List, get_or, replicate, ℤ, pos, sym, refl, ap, ◌∙◌, subst, ⊎_elim, lt_of_lt_of_le, le_of_lt, mul-le-mul_right, zero-lt-suc, mul_assoc, lt_of_mul-lt-mul_right, arith, lit<, leb→le, get_or-set_other, ltb-true, lt-ltb}
+use Rattle.std.proofs.Common.{◌≡◌, ℕ, suc, ◌+◌, ◌*◌, ◌/◌, ◌%◌, ◌<◌, ◌≤◌, Bool, true, false, cond, T, ltb, leb, List, get_or, replicate, ℤ, pos, sym, refl, ap, ◌∙◌, subst, ⊎_elim, lt_of_lt_of_le, le_of_lt, mul-le-mul_right, zero-lt-suc, mul_assoc, lt_of_mul-lt-mul_right, arith, lit<, leb→le, get_or-set_other, ltb-true, lt-ltb}
 use native.Mathlib.Decide.{ℕ_discrete}
 use lib.Ieee.{Float, binary32, round, sum, add, sub, mul, div, of_int, of_bits}
 use lib.Ieee.Exact.{HasValue}

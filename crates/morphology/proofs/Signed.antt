@@ -8,4 +8,4 @@ use mir.Val.{to_z, of_z}
 use mir.Facts.{to_z-of_z}
 
 pub back : (z : ℤ) → mag z < 2147483648 → to_z w32 (of_z w32 z) ≡ z
-back z f = to_z-of_z (record { sfits = f })
+back z f = to_z-of_z {w = w32} (record { sfits = f })

@@ -11,8 +11,7 @@ use mir.Syntax.{w64}
 use mir.Val.{Fits}
 use Rattle.morphology.specs.Morphology.{not_negative}
 use Rattle.morphology.proofs.Signed.{back}
-use Rattle.morphology.proofs.not_negative.Statement.{statement}
-use Rattle.morphology.proofs.not_negative.Tie as tie
+use Rattle.morphology.proofs.not_negative.Goals as goal
 
 below : (z z' : ℤ) → z' ≡ z → lt_z z' (pos 0) ≡ true → 0 ≡ not_negative z
 below (pos n) z' b e = let t : lt_z (pos n) (pos 0) ≡ true = rw b at e in absurd (not-suc-le-zero (ltb-true n 0 t))
@@ -33,14 +32,11 @@ module _ (z z' : ℤ) (b : z' ≡ z) (e : lt_z z' (pos 0) ≡ false) where
       go (pos n) e f = (tt, record { fits = lt_of_lt_of_le f (lit≤ tt) })
       go (negsuc n) e f = absurd (true≢false e)
 
-cast-result : tie.Need-overflow-cast-result
-cast-result c = fits c.before.args.n _ (back c.before.args.n c.before.well-formed.0) c.if1.false c.before.well-formed.0
+pub overflow_cast-result : goal.overflow_cast-result
+overflow_cast-result c = fits c.args.n _ (back c.args.n c.well_formed.0) c.if-n-lt0.false c.well_formed.0
 
-returns : tie.Need-returns
-returns c = below c.before.args.n _ (back c.before.args.n c.before.well-formed.0) c.if1.true
+pub returns-then-n-lt0 : goal.returns-then-n-lt0
+returns-then-n-lt0 c = below c.args.n _ (back c.args.n c.well_formed.0) c.if-n-lt0.true
 
-returns-2 : tie.Need-returns-2
-returns-2 c = size c.before.args.n _ (back c.before.args.n c.before.well-formed.0) c.if1.false
-
-pub not-negative-spec : {M : Type 1} → statement M
-not-negative-spec = tie.close (tie.spec cast-result returns returns-2)
+pub returns-else-n-lt0 : goal.returns-else-n-lt0
+returns-else-n-lt0 c = size c.args.n _ (back c.args.n c.well_formed.0) c.if-n-lt0.false

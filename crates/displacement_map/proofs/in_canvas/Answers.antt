@@ -1,0 +1,7 @@
+-- The two ends are the same values as numbers.
+use lib.Ieee.{of_bits, neg}
+use Rattle.displacement_map.proofs.in_canvas.Goals as goal
+
+pub returns : goal.returns
+unfolding of_bits neg
+returns c = c.within.ensures
