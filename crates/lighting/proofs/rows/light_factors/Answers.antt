@@ -1,0 +1,18 @@
+-- Each turn stores one more factor.
+use borrow.Author.Rules.{rules}
+use mathlib.Core.Path.{◌≡◌}
+use native.Mathlib.Omega.{arith}
+use Rattle.lighting.proofs.Passes.{filled_none, filled_more}
+use Rattle.lighting.proofs.rows.light_factors.Goals as goal
+
+pub loop-i-init : goal.loop-i-init
+loop-i-init c = (search rules, filled_none _ _ _)
+
+pub loop-i-preserved : goal.loop-i-preserved
+loop-i-preserved c =
+    (search rules, filled_more _ _ _ _ c.loop-i.invariant.1 (search rules) (rw (c.loop-i.invariant.1.rest c.loop-i.i (omega arith)) at c.light_factor.ensures))
+
+pub returns : goal.returns
+returns c =
+    let z : c.loop-i.i ≡ c.args.n = omega arith in
+    rw z at c.loop-i.invariant.1

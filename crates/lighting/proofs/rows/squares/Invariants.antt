@@ -1,0 +1,15 @@
+-- Each turn stores one more product.
+use Prim.Native.Nat.{◌-◌, ◌≤◌}
+use lib.Ieee.{nan}
+use Rattle.surface.specs.Inner.Lines.{normal_in}
+use Rattle.lighting.specs.Light.{normal_vector}
+use Rattle.lighting.specs.Inner.Rays.{square}
+use Rattle.lighting.specs.Inner.Rows.{Filled}
+use Rattle.lighting.proofs.rows.squares.Given as goal
+
+abbrev pub invariant-loop-i : goal.invariant-loop-i
+invariant-loop-i l =
+    (l.i ≤ l.strip.count) × Filled nan (λ j. square (normal_vector l.scale (normal_in l.strip l.sums l.above l.below j l.y))) l.i l.initial.lengths l.lengths
+
+abbrev pub decreases-loop-i : goal.decreases-loop-i
+decreases-loop-i l = l.strip.count - l.i
