@@ -1,7 +1,7 @@
 // The examples of docs/MESSAGES.md, read and written again: its standard output is held to be their bytes.
 #![tactic(auto)]
 
-use libc::STDOUT_FILENO;
+use std::io;
 
 // The most numbers of an example, and the most bytes.
 const POOL: usize = 64;
@@ -9,43 +9,53 @@ const POOL: usize = 64;
 const ROOM: usize = 256;
 
 // Writes the recipe of a message as a message; of one that is refused, the message of no steps.
-fn again(message: &[u8]) {
+fn again(rt: &impl Print, message: &[u8]) -> io::Result<()> {
     let mut pool = [0.0f32; POOL];
     let reading = message::read(message, &mut pool);
     let recipe = reading.recipe;
     let mut out = [7u8; ROOM];
     let writing = message::write(recipe, &pool, &mut out);
-    show(&out, writing.length);
+    show(rt, &out, writing.length)
 }
 
-fn show(out: &[u8], n: usize) {
+fn show(rt: &impl Print, out: &[u8], n: usize) -> io::Result<()> {
     if n <= out.len() {
-        io::write_all(STDOUT_FILENO, &out[..n]);
+        rt.write_all(&out[..n])?;
     }
+    Ok(())
 }
 
-fn main() {
-    again(b"\x01\x01\x00\x01\x00\x80\x80\x80\xfc\x03\x00");
-    again(b"\x01\x02\x00\x02\x01\x80\x80\x80\xf8\x03");
+fn main(rt: HostRuntime) -> io::Result<()> {
+    again(&rt, b"\x01\x01\x00\x01\x00\x80\x80\x80\xfc\x03\x00")?;
+    again(&rt, b"\x01\x02\x00\x02\x01\x80\x80\x80\xf8\x03")?;
     again(
+        &rt,
         b"\x01\x03\x00\x01\x01\x02\x80\x80\x80\xfc\x03\x00\x02\x01\x80\x80\x80\xf8\x03\x03\x80\x80\x80\x80\x04\x80\x80\x80\xfc\x0b\x00",
-    );
-    again(b"\x01\x04\x00\x01\x02\x00\x80\x80\x80\xfc\x03\x80\x80\x80\xfc\x0b\x00");
+    )?;
     again(
+        &rt,
+        b"\x01\x04\x00\x01\x02\x00\x80\x80\x80\xfc\x03\x80\x80\x80\xfc\x0b\x00",
+    )?;
+    again(
+        &rt,
         b"\x01\x05\x00\x01\x02\x01\x01\x00\x02\x80\x80\x80\xfc\x03\x80\x80\x80\x82\x04\x80\x80\x80\x84\x04\x00\x01\x00",
-    );
+    )?;
     again(
+        &rt,
         b"\x01\x06\x00\x01\x02\x00\x03\x80\x80\x80\xfc\x03\x80\x80\x80\xfc\x03\x80\x80\x80\x8d\x04",
-    );
+    )?;
     again(
+        &rt,
         b"\x01\x07\x01\x00\x00\x00\x00\x00\x80\x80\xc0\xff\x03\x00\x80\x80\xc0\xff\x03\x9a\xb3\xe6\xcc\x09\x99\xb3\xa6\xfd\x03\x00\x80\x80\x80\xff\x03\x03\xfb\xff\xff\xff\x0f\x01",
-    );
+    )?;
     again(
+        &rt,
         b"\x01\x08\x00\x01\x80\x80\x80\x85\x04\x80\x80\x80\xfc\x03\xff\x01\xf0\x01\xc8\x01\x00\x9a\xb3\xe6\xf8\x03\x00\xcd\x99\xb3\xfa\x03",
-    );
+    )?;
     again(
+        &rt,
         b"\x01\x09\x00\x01\x80\x80\x80\x80\x04\x80\x80\x80\xf8\x03\x80\x80\x80\xfc\x03\x00\x00\xff\x01\x01\x80\x80\x80\x91\x04\x80\x80\xc0\x8f\x04\x80\x80\xd0\x95\x04",
-    );
+    )?;
     // cut off, so that it is refused
-    again(b"\x01\x01\x00");
+    again(&rt, b"\x01\x01\x00")
 }

@@ -5,7 +5,9 @@ mod reach_example;
 mod replay;
 mod runs;
 
-fn main() {
-    replay::replay();
-    reach_example::show();
+use std::io;
+
+fn main(rt: HostRuntime) -> io::Result<()> {
+    replay::replay(&rt)?;
+    reach_example::show(&rt)
 }

@@ -2,32 +2,29 @@
 ghost use Rattle.std.specs.Prelude.{◌<◌};
 
 use filter::{Kind, Recipe, STEP_LIMIT, Step, Work};
-use libc::STDOUT_FILENO;
 use morphology::MorphologyOperator;
 use sheet::Size;
+use std::io;
 
 // Prints the source bytes that byte 3 of the result, pixel 0's alpha, changes with.
-pub fn show() {
-    io::write_all(
-        STDOUT_FILENO,
-        b"reach: dilate twice, result byte 3 changes with source bytes",
-    );
+pub fn show(rt: &impl Print) -> io::Result<()> {
+    print!(rt; "reach: dilate twice, result byte 3 changes with source bytes")?;
     let mut at = 0;
     while at < 20 {
-        show_byte(at);
+        show_byte(rt, at)?;
         at += 1;
     }
-    io::write_all(STDOUT_FILENO, b"\n");
+    println!(rt;)
 }
 
 // Prints the place of a source byte that shows.
-fn show_byte(at: usize)
+fn show_byte(rt: &impl Print, at: usize) -> io::Result<()>
     requires { at < 20 }
 {
     if shows(at) {
-        io::write_all(STDOUT_FILENO, b" ");
-        io::print_decimal(STDOUT_FILENO, at as u64);
+        print!(rt; " {at}")?;
     }
+    Ok(())
 }
 
 // Whether some value of source byte `at` changes the result, on a clear ground or on a grey one.

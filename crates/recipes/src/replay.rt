@@ -7,6 +7,8 @@ use crate::runs::{Run, Sheets};
 use filter::{ReachAnswer, Recipe};
 use message::{MessageAnswer, Reading};
 use sheet::Answer;
+use std::io;
+use std::rt::Files;
 use stored::list::LIST;
 use stored::tally::Tally;
 use stored::{answers, list, sheets, tally, words};
@@ -17,10 +19,11 @@ const SHEET: usize = 256;
 const POOL: usize = 4096;
 
 // Runs the recipes of the file, and prints how many there are and how many differ.
-pub fn replay() {
+pub fn replay(rt: &(impl Files + Print)) -> io::Result<()> {
     let mut bytes = [0u8; LIST];
-    let end = list::read(b"messages.bin", &mut bytes);
-    tally::print(b"recipes", tally::whole(run(&bytes[..end]), end < LIST));
+    let end = list::read(rt, b"messages.bin", &mut bytes)?;
+    tally::print(rt, b"recipes", tally::whole(run(&bytes[..end]), end < LIST))?;
+    Ok(())
 }
 
 fn run(list: &[u8]) -> Tally

@@ -6,84 +6,87 @@ use component_transfer::TransferFunction;
 use convolve_matrix::{ConvolveMatrix, EdgeMode};
 use displacement_map::ColorChannel;
 use filter::{Kind, Recipe, STEP_LIMIT, Step, Work};
-use libc::STDOUT_FILENO;
 use lighting::{Color, LightSource};
 use morphology::MorphologyOperator;
 use pool::Numbers;
 use sheet::{Answer, Size};
+use std::io;
 use turbulence::Turbulence;
 
-fn main() {
-    longest(b"4096 x 1:", 4096, 1);
-    longer(b"4097 x 1:", 4097, 1);
-    longest(b"1 x 4096:", 1, 4096);
-    longer(b"1 x 4097:", 1, 4097);
+fn main(rt: HostRuntime) -> io::Result<()> {
+    longest(&rt, b"4096 x 1:", 4096, 1)?;
+    longer(&rt, b"4097 x 1:", 4097, 1)?;
+    longest(&rt, b"1 x 4096:", 1, 4096)?;
+    longer(&rt, b"1 x 4097:", 1, 4097)
 }
 
 // On sheets of 4,096 pixels.
-fn longest(title: &[u8], width: usize, height: usize) {
+fn longest(rt: &impl Print, title: &[u8], width: usize, height: usize) -> io::Result<()> {
     let mut source = [5u8; 16384];
     let mut slot1 = [6u8; 16384];
     let mut slot2 = [7u8; 16384];
     let mut slot3 = [8u8; 16384];
     let mut scratch = [9u8; 16384];
-    io::write_all(STDOUT_FILENO, title);
+    rt.write_all(title)?;
     answers(
+        rt,
         Size { width, height },
         &mut source,
         &mut slot1,
         &mut slot2,
         &mut slot3,
         &mut scratch,
-    );
+    )
 }
 
 // On sheets of 4,097 pixels.
-fn longer(title: &[u8], width: usize, height: usize) {
+fn longer(rt: &impl Print, title: &[u8], width: usize, height: usize) -> io::Result<()> {
     let mut source = [5u8; 16388];
     let mut slot1 = [6u8; 16388];
     let mut slot2 = [7u8; 16388];
     let mut slot3 = [8u8; 16388];
     let mut scratch = [9u8; 16388];
-    io::write_all(STDOUT_FILENO, title);
+    rt.write_all(title)?;
     answers(
+        rt,
         Size { width, height },
         &mut source,
         &mut slot1,
         &mut slot2,
         &mut slot3,
         &mut scratch,
-    );
+    )
 }
 
 // Prints what every call answers.
 fn answers(
+    rt: &impl Print,
     size: Size,
     source: &mut [u8],
     slot1: &mut [u8],
     slot2: &mut [u8],
     slot3: &mut [u8],
     scratch: &mut [u8],
-) {
-    spread(size, source, scratch);
-    recoloured(size, source);
-    into_another(size, source, slot1, slot2);
-    lit(size, source, slot2);
-    recipe(size, source, slot1, slot2, slot3, scratch);
+) -> io::Result<()> {
+    spread(rt, size, source, scratch)?;
+    recoloured(rt, size, source)?;
+    into_another(rt, size, source, slot1, slot2)?;
+    lit(rt, size, source, slot2)?;
+    recipe(rt, size, source, slot1, slot2, slot3, scratch)
 }
 
-fn say(name: &[u8], answer: Answer) {
-    io::write_all(STDOUT_FILENO, name);
-    io::print_decimal(STDOUT_FILENO, sheet::answer_number(answer) as u64);
+fn say(rt: &impl Print, name: &[u8], answer: Answer) -> io::Result<()> {
+    rt.write_all(name)?;
+    print!(rt; "{}", sheet::answer_number(answer))
 }
 
-fn spread(size: Size, src: &mut [u8], scratch: &mut [u8]) {
+fn spread(rt: &impl Print, size: Size, src: &mut [u8], scratch: &mut [u8]) -> io::Result<()> {
     let w = size.width;
     let h = size.height;
     let dilated = morphology::apply(MorphologyOperator::Dilate, 1.0, 1.0, w, h, src, scratch);
-    say(b" morphology ", dilated);
+    say(rt, b" morphology ", dilated)?;
     let convolved = convolve_matrix::apply(halves(), &[0.5, 0.5], w, h, src, scratch);
-    say(b", convolve_matrix ", convolved);
+    say(rt, b", convolve_matrix ", convolved)
 }
 
 // A kernel of two columns.
@@ -101,11 +104,11 @@ fn halves() -> ConvolveMatrix {
     }
 }
 
-fn recoloured(size: Size, src: &mut [u8]) {
+fn recoloured(rt: &impl Print, size: Size, src: &mut [u8]) -> io::Result<()> {
     let w = size.width;
     let h = size.height;
     let saturated = color_matrix::apply(ColorMatrix::Saturate(0.5), &[], w, h, src);
-    say(b", color_matrix ", saturated);
+    say(rt, b", color_matrix ", saturated)?;
     let linear = TransferFunction::Linear(0.5, 0.25);
     let transferred = component_transfer::apply(
         linear,
@@ -120,14 +123,20 @@ fn recoloured(size: Size, src: &mut [u8]) {
         h,
         src,
     );
-    say(b", component_transfer ", transferred);
+    say(rt, b", component_transfer ", transferred)
 }
 
-fn into_another(size: Size, src: &[u8], other: &[u8], dest: &mut [u8]) {
+fn into_another(
+    rt: &impl Print,
+    size: Size,
+    src: &[u8],
+    other: &[u8],
+    dest: &mut [u8],
+) -> io::Result<()> {
     let w = size.width;
     let h = size.height;
     let composed = composite::arithmetic(0.0, 0.5, 0.5, 0.0, w, h, src, other, dest);
-    say(b", composite ", composed);
+    say(rt, b", composite ", composed)?;
     let moved = displacement_map::apply(
         ColorChannel::R,
         ColorChannel::G,
@@ -140,8 +149,12 @@ fn into_another(size: Size, src: &[u8], other: &[u8], dest: &mut [u8]) {
         other,
         dest,
     );
-    say(b", displacement_map ", moved);
-    say(b", turbulence ", turbulence::apply(clouds(), w, h, dest));
+    say(rt, b", displacement_map ", moved)?;
+    say(
+        rt,
+        b", turbulence ",
+        turbulence::apply(clouds(), w, h, dest),
+    )
 }
 
 fn clouds() -> Turbulence {
@@ -158,7 +171,7 @@ fn clouds() -> Turbulence {
     }
 }
 
-fn lit(size: Size, src: &[u8], dest: &mut [u8]) {
+fn lit(rt: &impl Print, size: Size, src: &[u8], dest: &mut [u8]) -> io::Result<()> {
     let w = size.width;
     let h = size.height;
     let light = LightSource::Point(2000.0, 2000.0, 90.0);
@@ -168,20 +181,21 @@ fn lit(size: Size, src: &[u8], dest: &mut [u8]) {
         blue: 255,
     };
     let diffuse = lighting::diffuse_lighting(light, 1.0, 1.0, white, w, h, src, dest);
-    say(b", diffuse lighting ", diffuse);
+    say(rt, b", diffuse lighting ", diffuse)?;
     let specular = lighting::specular_lighting(light, 1.0, 1.0, 1.0, white, w, h, src, dest);
-    say(b", specular lighting ", specular);
+    say(rt, b", specular lighting ", specular)
 }
 
 // One dilation, from the source to slot 1.
 fn recipe(
+    rt: &impl Print,
     size: Size,
     source: &[u8],
     slot1: &mut [u8],
     slot2: &mut [u8],
     slot3: &mut [u8],
     scratch: &mut [u8],
-) {
+) -> io::Result<()> {
     let dilate = Work::Morphology(0, MorphologyOperator::Dilate, 1.0, 1.0);
     let steps = [Step::new(dilate, 1); STEP_LIMIT];
     let recipe = Recipe {
@@ -199,6 +213,6 @@ fn recipe(
         slot3,
         scratch,
     );
-    say(b", a recipe ", answer);
-    io::write_all(STDOUT_FILENO, b"\n");
+    say(rt, b", a recipe ", answer)?;
+    rt.write_all(b"\n")
 }

@@ -1,21 +1,38 @@
 // A list as the bytes of its file.
-ghost use Rattle.std.specs.Prelude.{◌≤◌};
+ghost use Rattle.std.specs.Prelude.{◌≤◌, IfOk};
 ghost use Rattle.io.specs.Counts.{IsPrefixLen};
+
+use std::io::{ErrorKind, Read};
+use std::rt::Files;
+use std::{fs, io, str};
 
 // More bytes than the longest list.
 pub const LIST: usize = 262144;
 
-// Fills `list` with the bytes of the file at `path`, and says how many there are: none where the file cannot be opened.
-pub fn read(path: &[u8], list: &mut [u8; LIST]) -> usize
-    ensures prefix_len { IsPrefixLen result list.new }
-    ensures upper_bound { result ≤ 262144 }
+// Fills `list` with the bytes of the file at `path`, and says how many there are. A file that cannot be opened or read gives its
+// error, which may leave some of the bytes in `list`; a path that is no UTF-8 cannot be opened.
+pub fn read(rt: &impl Files, path: &[u8], list: &mut [u8; LIST]) -> io::Result<usize>
+    ensures prefix_len { IfOk result (λ n. IsPrefixLen n list.new) }
+    ensures upper_bound { IfOk result (λ n. n ≤ 262144) }
 {
-    let fd = os::open_read(path);
-    if fd < 0 {
-        os::fail(path);
-        return 0;
+    let Ok(path) = str::from_utf8(path) else {
+        return Err(io::Error::from(ErrorKind::InvalidInput));
+    };
+    let mut file = fs::open(rt, path)?;
+    fill(&mut file, list)
+}
+
+// Reads until `list` is full or the input ends, and says how many bytes were put at its start.
+fn fill(file: &mut impl Read, list: &mut [u8]) -> io::Result<usize>
+    ensures { IfOk result (λ n. IsPrefixLen n list.new) }
+{
+    let mut end = 0;
+    while end < list.len() {
+        let count = file.read(&mut list[end..])?;
+        if count == 0 {
+            break;
+        }
+        end += count;
     }
-    let end = io::read_full(fd, list);
-    libc::close(fd);
-    end
+    Ok(end)
 }

@@ -103,5 +103,5 @@ pub fn is_left(list: &[u8], sheet: Stored, bytes: &[u8]) -> bool
         return false;
     }
     let end = at + n;
-    check::same(bytes, &list[at..end])
+    bytes == &list[at..end]
 }

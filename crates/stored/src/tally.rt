@@ -1,9 +1,9 @@
 // How many cases were run, how many of the answers differ from the stored ones, and how many cases were not run because no
 // value of the enum says them: those are refused at the C boundary alone.
-ghost use Rattle.std.specs.Prelude.{◌≡◌, ◌==◌};
+ghost use Rattle.std.specs.Prelude.{◌≡◌, ◌==◌, IfOk};
 ghost use Rattle.stored.specs.Tally as Tallies;
 
-use libc::STDOUT_FILENO;
+use std::io;
 
 #[derive(Clone, Copy)]
 pub struct Tally {
@@ -60,24 +60,22 @@ pub fn whole(tally: Tally, ended: bool) -> Tally
     if ended { tally } else { counted(tally, false) }
 }
 
-// Prints `NAME: N cases, M differences`, and how many were not run, if any; says whether none differ.
-pub fn print(name: &[u8], tally: Tally) -> bool
-    ensures { result ≡ (tally.differences == 0) }
+// Prints `NAME: N cases, M differences`, and how many were not run, if any; says whether none differ. Where a write fails, it gives
+// the error.
+pub fn print(rt: &impl Print, name: &[u8], tally: Tally) -> io::Result<bool>
+    ensures { IfOk result (λ none_differ. none_differ ≡ (tally.differences == 0)) }
 {
-    print_count(name, tally.cases);
-    io::write_all(STDOUT_FILENO, b" cases, ");
-    io::print_decimal(STDOUT_FILENO, tally.differences);
-    io::write_all(STDOUT_FILENO, b" differences\n");
+    print_count(rt, name, tally.cases)?;
+    println!(rt; " cases, {} differences", tally.differences)?;
     if tally.unnamed > 0 {
-        print_count(name, tally.unnamed);
-        io::write_all(STDOUT_FILENO, b" cases not run, which only C can say\n");
+        print_count(rt, name, tally.unnamed)?;
+        println!(rt; " cases not run, which only C can say")?;
     }
-    tally.differences == 0
+    Ok(tally.differences == 0)
 }
 
 // Prints `NAME: N`.
-fn print_count(name: &[u8], count: u64) {
-    io::write_all(STDOUT_FILENO, name);
-    io::write_all(STDOUT_FILENO, b": ");
-    io::print_decimal(STDOUT_FILENO, count);
+fn print_count(rt: &impl Print, name: &[u8], count: u64) -> io::Result<()> {
+    rt.write_all(name)?;
+    print!(rt; ": {count}")
 }

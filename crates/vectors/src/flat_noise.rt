@@ -1,6 +1,6 @@
 // docs/LAW.md's noise without frequencies or octaves: 128 in every channel for fractal noise and else 0, unless frequencies are 0
 // and a gradient that is read is NaN.
-use libc::STDOUT_FILENO;
+use std::io;
 use turbulence::Turbulence;
 
 // A seed that draws no NaN at the lattice points around 0, and one that draws one in alpha.
@@ -9,19 +9,31 @@ const NO_NAN: i32 = 1;
 const NAN_IN_ALPHA: i32 = 14921;
 
 // Prints the bytes of two pixels for each.
-pub fn show() {
-    show_both(b"octaves 0", 0.25, 0, NAN_IN_ALPHA);
-    show_both(b"frequencies 0", 0.0, 3, NO_NAN);
-    show_both(b"frequencies 0, NaN in alpha", 0.0, 3, NAN_IN_ALPHA);
+pub fn show(rt: &impl Print) -> io::Result<()> {
+    show_both(rt, b"octaves 0", 0.25, 0, NAN_IN_ALPHA)?;
+    show_both(rt, b"frequencies 0", 0.0, 3, NO_NAN)?;
+    show_both(rt, b"frequencies 0, NaN in alpha", 0.0, 3, NAN_IN_ALPHA)
 }
 
-fn show_both(name: &[u8], frequency: f64, octaves: u32, seed: i32) {
-    show_kind(b"turbulence: ", name, flat(frequency, octaves, seed, false));
+fn show_both(
+    rt: &impl Print,
+    name: &[u8],
+    frequency: f64,
+    octaves: u32,
+    seed: i32,
+) -> io::Result<()> {
     show_kind(
+        rt,
+        b"turbulence: ",
+        name,
+        flat(frequency, octaves, seed, false),
+    )?;
+    show_kind(
+        rt,
         b"fractal noise: ",
         name,
         flat(frequency, octaves, seed, true),
-    );
+    )
 }
 
 fn flat(frequency: f64, octaves: u32, seed: i32, fractal_noise: bool) -> Turbulence {
@@ -38,25 +50,22 @@ fn flat(frequency: f64, octaves: u32, seed: i32, fractal_noise: bool) -> Turbule
     }
 }
 
-fn show_kind(kind: &[u8], name: &[u8], t: Turbulence) {
-    io::write_all(STDOUT_FILENO, kind);
-    io::write_all(STDOUT_FILENO, name);
-    io::write_all(STDOUT_FILENO, b":");
+fn show_kind(rt: &impl Print, kind: &[u8], name: &[u8], t: Turbulence) -> io::Result<()> {
+    rt.write_all(kind)?;
+    rt.write_all(name)?;
+    rt.write_all(b":")?;
     let mut dest = [77u8; 8];
     turbulence::apply(t, 2, 1, &mut dest);
-    print_bytes(&dest);
-    io::write_all(STDOUT_FILENO, b"\n");
+    print_bytes(rt, &dest)?;
+    rt.write_all(b"\n")
 }
 
-fn print_bytes(bytes: &[u8]) {
+fn print_bytes(rt: &impl Print, bytes: &[u8]) -> io::Result<()> {
     let mut i = 0;
     while i < bytes.len() {
-        io::write_all(STDOUT_FILENO, b" ");
-        io::print_decimal(STDOUT_FILENO, wide(bytes[i]));
+        let byte = bytes[i];
+        print!(rt; " {byte}")?;
         i += 1;
     }
-}
-
-fn wide(b: u8) -> u64 {
-    b as u64
+    Ok(())
 }

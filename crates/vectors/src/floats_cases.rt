@@ -3,48 +3,46 @@
 ghost use Rattle.std.specs.Prelude.{◌<◌};
 
 use crate::reader;
+use std::io::Read;
+use std::rt::Files;
+use std::{fs, io};
 use stored::tally::Tally;
 use stored::{tally, words};
 
 // Runs every case and prints a line for each kind, and one for the kinds that there are not, if any came.
-pub fn replay() {
-    let path = b"floats.bin";
-    let fd = os::open_read(path);
-    if fd < 0 {
-        os::fail(path);
-        return;
-    }
-    let mut buf = io::buffer();
-    let tallies = run(fd, &mut buf);
-    libc::close(fd);
-    tally::print(b"to_byte", tallies[0]);
-    tally::print(b"round_to_i32", tallies[1]);
-    tally::print(b"near_zero", tallies[2]);
-    tally::print(b"unit_pair", tallies[3]);
-    tally::print(b"unit_triple", tallies[4]);
+pub fn replay(rt: &(impl Files + Print)) -> io::Result<()> {
+    let mut file = fs::open(rt, "floats.bin")?;
+    let mut buf = [0u8; 4096];
+    let tallies = run(&mut file, &mut buf)?;
+    tally::print(rt, b"to_byte", tallies[0])?;
+    tally::print(rt, b"round_to_i32", tallies[1])?;
+    tally::print(rt, b"near_zero", tallies[2])?;
+    tally::print(rt, b"unit_pair", tallies[3])?;
+    tally::print(rt, b"unit_triple", tallies[4])?;
     let unknown = tallies[5];
     if unknown.cases > 0 {
-        tally::print(b"unknown", unknown);
+        tally::print(rt, b"unknown", unknown)?;
     }
+    Ok(())
 }
 
 // A proved loop has to end, and nothing says that a file does: it counts its turns down from a number that no run uses up.
-fn run(fd: i32, buf: &mut [u8]) -> [Tally; 6] {
+fn run(file: &mut impl Read, buf: &mut [u8]) -> io::Result<[Tally; 6]> {
     let mut tallies = [tally::none(); 6];
     let mut place = reader::start();
     let mut turns = u64::MAX;
     while turns > 0 {
         let mut case = [0u8; 20];
-        let filled = reader::fill(fd, buf, place, &mut case);
+        let filled = reader::fill(file, buf, place, &mut case)?;
         if filled.count < 20 {
-            return tallies;
+            return Ok(tallies);
         }
         place = filled.after;
         let row = row_of(&case);
         tallies[row] = tally::counted(tallies[row], agrees(&case));
         turns -= 1;
     }
-    tallies
+    Ok(tallies)
 }
 
 // The tally of a case's kind: 5 for those that there are not.

@@ -16,16 +16,18 @@ mod reader;
 mod replay;
 mod turbulence_cases;
 
-fn main() {
-    floats_cases::replay();
-    replay::replay(b"morphology", b"morphology.bin");
-    replay::replay(b"color_matrix", b"color_matrix.bin");
-    replay::replay(b"composite", b"composite.bin");
-    replay::replay(b"component_transfer", b"component_transfer.bin");
-    replay::replay(b"convolve_matrix", b"convolve_matrix.bin");
-    replay::replay(b"displacement_map", b"displacement_map.bin");
-    replay::replay(b"turbulence", b"turbulence.bin");
-    replay::replay(b"diffuse_lighting", b"diffuse_lighting.bin");
-    replay::replay(b"specular_lighting", b"specular_lighting.bin");
-    flat_noise::show();
+use std::io;
+
+fn main(rt: HostRuntime) -> io::Result<()> {
+    floats_cases::replay(&rt)?;
+    replay::replay(&rt, b"morphology", b"morphology.bin")?;
+    replay::replay(&rt, b"color_matrix", b"color_matrix.bin")?;
+    replay::replay(&rt, b"composite", b"composite.bin")?;
+    replay::replay(&rt, b"component_transfer", b"component_transfer.bin")?;
+    replay::replay(&rt, b"convolve_matrix", b"convolve_matrix.bin")?;
+    replay::replay(&rt, b"displacement_map", b"displacement_map.bin")?;
+    replay::replay(&rt, b"turbulence", b"turbulence.bin")?;
+    replay::replay(&rt, b"diffuse_lighting", b"diffuse_lighting.bin")?;
+    replay::replay(&rt, b"specular_lighting", b"specular_lighting.bin")?;
+    flat_noise::show(&rt)
 }

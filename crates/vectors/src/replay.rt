@@ -8,6 +8,8 @@ use crate::{
     displacement_map_cases, lighting_cases, morphology_cases, turbulence_cases,
 };
 use sheet::Answer;
+use std::io;
+use std::rt::Files;
 use stored::list::LIST;
 use stored::tally::Tally;
 use stored::{answers, list, sheets, tally};
@@ -16,10 +18,11 @@ use stored::{answers, list, sheets, tally};
 const SHEET: usize = 20480;
 
 // Runs the cases of the file at `path`, and prints how many there are and how many differ.
-pub fn replay(name: &[u8], path: &[u8]) {
+pub fn replay(rt: &(impl Files + Print), name: &[u8], path: &[u8]) -> io::Result<()> {
     let mut bytes = [0u8; LIST];
-    let end = list::read(path, &mut bytes);
-    tally::print(name, tally::whole(run(&bytes[..end]), end < LIST));
+    let end = list::read(rt, path, &mut bytes)?;
+    tally::print(rt, name, tally::whole(run(&bytes[..end]), end < LIST))?;
+    Ok(())
 }
 
 fn run(list: &[u8]) -> Tally
