@@ -2,3 +2,4 @@ pub mod Words
 pub mod Parameters
 pub mod Tally
 pub mod Answers
+pub mod Lists

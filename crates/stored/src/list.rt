@@ -1,6 +1,6 @@
 // A list as the bytes of its file.
 ghost use Rattle.std.specs.Prelude.{◌≤◌, IfOk};
-ghost use Rattle.io.specs.Counts.{IsPrefixLen};
+ghost use Rattle.stored.specs.Lists.{IsPrefixLen};
 
 use std::io::{ErrorKind, Read};
 use std::rt::Files;

@@ -1,6 +1,6 @@
 // A sheet in a list: its length, then its bytes, padded to a whole number of words.
 ghost use Rattle.std.specs.Prelude.{◌≡◌, ◌+◌, ◌<◌, ◌≤◌, true, length, take, drop};
-ghost use Rattle.io.specs.Counts.{IsPrefixLen};
+ghost use Rattle.stored.specs.Lists.{IsPrefixLen};
 
 use crate::words;
 
