@@ -63,9 +63,13 @@ fn show_kind(rt: &impl Print, kind: &[u8], name: &[u8], t: Turbulence) -> io::Re
 fn print_bytes(rt: &impl Print, bytes: &[u8]) -> io::Result<()> {
     let mut i = 0;
     while i < bytes.len() {
-        let byte = bytes[i];
+        let byte = wide(bytes[i]);
         print!(rt; " {byte}")?;
         i += 1;
     }
     Ok(())
+}
+
+fn wide(b: u8) -> u64 {
+    b as u64
 }
