@@ -1,5 +1,5 @@
 -- What a run that passed its tests tells: sheets of one length, a count within the limit, and steps that read what is there.
-use Prim.Native.Nat.{ℕ, zero, suc, ◌-◌, ◌≤◌, ◌<◌}
+use Prim.Native.Nat.{ℕ, zero, suc, ◌≤◌, ◌<◌}
 use mathlib.Core.Path.{◌≡◌, refl, sym, ◌∙◌}
 use mathlib.Core.Bool.{Bool, true, false, cond, false≢true}
 use mathlib.Core.List.{List}
@@ -14,7 +14,6 @@ use Rattle.sheet.specs.declared.Answer.TheVariants.{Done}
 use Rattle.sheet.specs.Size.{sheets_answer}
 use Rattle.sheet.proofs.Answers.{cond_true, cond_done, cond_passed, both_done, sheets_first}
 use Rattle.recipe.specs.declared.Kind.{Kind}
-use Rattle.recipe.specs.declared.Kind.TheVariants as kind
 use Rattle.recipe.specs.declared.Inputs.{Inputs}
 use Rattle.recipe.specs.declared.Inputs.TheVariants.{None, One, Two}
 use Rattle.recipe.specs.declared.Step.{Step}

@@ -23,7 +23,7 @@ use Rattle.recipe.specs.declared.contents.Contents.{Contents}
 use Rattle.recipe.specs.Contents.{at_first, contents}
 use Rattle.recipe.specs.Tests.{step_answer, step_of, run_answer}
 use Rattle.filter.specs.Slots.{Slots, slot_of, made, acts}
-use Rattle.filter.specs.Call.{Call, slots_were, slots_became, lengths, answer, all_steps, Ran}
+use Rattle.filter.specs.Call.{Call, slots_were, slots_became, lengths, answer, all_steps}
 use Rattle.filter.specs.Reach.{step_reads, Reach, Reaching}
 use Rattle.filter.specs.Demands.{AnyInputGetsAnAnswer, EveryOutputByteIsTheDefinitions, SameRequest, AByteDrawsOnItsReach, OneOutcome, OneYesOrNo}
 use Rattle.filter.specs.Inner.Engine.{Legal}

@@ -1,7 +1,7 @@
 -- The contracts of `run` and of `reaches`: how a refusal and a success show them, and that `reaches` has one outcome.
 use Prim.Native.Nat.{◌*◌, ◌<◌}
 use mathlib.Core.Path.{◌≡◌, sym, ◌∙◌}
-use mathlib.Core.Bool.{Bool, true, false, false≢true}
+use mathlib.Core.Bool.{Bool, false, false≢true}
 use native.Mathlib.Nat.{mul-le-mul}
 use native.Mathlib.Omega.{arith}
 use lib.ListN.{length}

@@ -1,0 +1,15 @@
+-- The picked sheet is copied, and its call passes the tests that the runner passed.
+use mathlib.Core.Path.{ap, ◌∙◌}
+use mathlib.Core.List.{[], ◌∷◌}
+use lib.ListN.{length}
+use Rattle.sheet.proofs.Contracts.{holds_new}
+use Rattle.convolve_matrix.specs.ConvolveMatrix.{answer, convolved}
+use Rattle.filter.proofs.Acting.{passed, copied_whole, copy_fits}
+use Rattle.filter.proofs.step.convolve_into.Goals as goal
+
+pub returns : goal.returns
+unfolding answer
+returns c =
+    let rest = length c.args.scratch.now ∷ [] in
+    let copied = c.copy.ensures ∙ copied_whole c.args.size.width c.args.size.height c.args.src.now c.args.out.now rest c.requires.scratch_value in
+    holds_new c.apply.ensures.filtered.held (passed (copy_fits c.args.size.width c.args.size.height c.args.src.now c.args.out.now rest c.requires.scratch_value copied) c.requires.pool_value) ∙ ap (convolved c.args.matrix c.args.pool.now c.args.size.width c.args.size.height) copied
