@@ -110,7 +110,7 @@ fn read(Param { kind, name }: &Param) -> String {
 fn link_library(functions: &[Function]) -> Result<(), String> {
     println!("cargo::rerun-if-env-changed=NUPRIKHEN_ARCHIVE");
     let named = env::var_os("NUPRIKHEN_ARCHIVE");
-    let named = named.unwrap_or("../target/staticlib/libnuprikhen.a".into());
+    let named = named.unwrap_or("../target/library/libnuprikhen.a".into());
     let archive = Path::new(&named);
     println!("cargo::rerun-if-changed={}", archive.display());
     let bytes = fs::read(archive).map_err(|error| format!("{}: {error}", archive.display()))?;
@@ -156,7 +156,7 @@ fn defined(archive: &Path) -> Result<Vec<String>, String> {
     Ok(names.map(str::to_string).collect())
 }
 
-/// Compiles bridge.c for x86-64 with the archive, by the tools of the Rattle kit.
+/// Compiles bridge.c for x86-64 with the archive, by the tools of the Rattle kit, or those of PATH.
 fn make_bridge(archive: &Path) -> Result<(), String> {
     println!("cargo::rerun-if-changed=bridge/bridge.c");
     let tools = kit_tools();
@@ -180,25 +180,18 @@ fn make_bridge(archive: &Path) -> Result<(), String> {
     linker.args(["-static", "-o"]).arg(&bridge).arg(&object);
     done(linker.arg("--whole-archive").arg(archive))?;
     println!("cargo::rustc-env=ORACLE_BRIDGE={}", bridge.display());
-    println!(
-        "cargo::rustc-env=ORACLE_EMULATOR={}",
-        tools.join("qemu-x86_64").display()
-    );
     println!("cargo::rustc-cfg=bridged");
     Ok(())
 }
 
-/// The folder of the kit's compiler, linker and emulator; none, and so those of PATH, without a kit.
+/// The folder of the kit's compiler and linker; none, and so those of PATH, without a kit.
 fn kit_tools() -> PathBuf {
     let Ok(rt) = Command::new("rt").arg("doc").output() else {
         return PathBuf::new();
     };
     let guide = String::from_utf8_lossy(&rt.stdout).trim().to_string();
-    let kit = Path::new(&guide)
-        .ancestors()
-        .nth(2)
-        .unwrap_or(Path::new(""));
-    kit.join("on").join(env::consts::ARCH).join("toolchain/bin")
+    let kit = Path::new(&guide).parent().unwrap_or(Path::new(""));
+    kit.join("toolchain/bin")
 }
 
 /// What the command prints; the error is what it says.

@@ -1,4 +1,4 @@
-//! The library under an emulator, where the archive is for another processor than this program's:
+//! The library under the emulator qemu-x86_64, where the archive is for another processor than this program's:
 //! each call goes through a pipe to bridge/bridge.c. One bridge runs for each thread.
 
 use std::cell::RefCell;
@@ -15,7 +15,7 @@ struct Bridge {
 
 impl Bridge {
     fn start() -> Bridge {
-        let mut child = Command::new(env!("ORACLE_EMULATOR"))
+        let mut child = Command::new("qemu-x86_64")
             .arg(env!("ORACLE_BRIDGE"))
             .stdin(Stdio::piped())
             .stdout(Stdio::piped())

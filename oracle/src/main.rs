@@ -28,13 +28,16 @@ usage: oracle COMMAND
   dirty WIDTH HEIGHT SOURCE OLD RUST LIBRARY
                                   compose SOURCE into a destination that holds OLD, by the Rust and by the
                                   library; all are files of raw premultiplied pixels, the last two are written
-  unproved                        print the C functions over those of an unproved program, for ./edits
+  unproved [main]                 print the C functions over those of an unproved program, or the main of that
+                                  program, for ./edits
 
-compare, patterns, bench and dirty use target/staticlib/libnuprikhen.a of the repository; build it first
-(rt staticlib nuprikhen) and run this program by `cargo run --release --`, which links it.
+compare, patterns, bench and dirty use target/library/libnuprikhen.a of the repository; build it first
+(./build there) and run this program by `cargo run --release --`, which links it.
 Names: to_bytes round_to_i32s sqrt32 sqrt64 to_f32s copy clear morphology color_matrix composite component_transfer
 convolve_matrix displacement_map turbulence diffuse_lighting specular_lighting messages.
 Status: 0 no difference, 1 a difference or a library that cannot be called, 2 a wrong command.";
+
+const HEADER: &str = include_str!("../../include/nuprikhen.h");
 
 fn main() -> ExitCode {
     let args: Vec<String> = env::args().skip(1).collect();
@@ -59,10 +62,11 @@ fn main() -> ExitCode {
         ["bench", "--slow"] => bench::run(true),
         ["dirty", width, height, ref files @ ..] => compose(width, height, files),
         ["unproved"] => {
-            print!(
-                "{}",
-                unproved::shims(include_str!("../../include/nuprikhen.h"))
-            );
+            print!("{}", unproved::shims(HEADER));
+            ExitCode::SUCCESS
+        }
+        ["unproved", "main"] => {
+            print!("{}", unproved::main(HEADER));
             ExitCode::SUCCESS
         }
         ["help" | "--help" | "-h"] => {
