@@ -19,8 +19,8 @@ ghost use Rattle.nuprikhen.specs.Called.{Told};
 use sheet::Answer;
 
 // What a call answers: docs/LAW.md's number, 0 when it is done, and the index of the step.
-#[repr(C)]
 #[derive(Clone, Copy)]
+#[repr(C)]
 pub struct nup_answer {
     pub number: u8,
     pub step: u8,

@@ -14,8 +14,8 @@ const POOL: usize = 16384;
 
 // What a run of a message answers: docs/LAW.md's number or a message's, the index of the step, and for 10 the offset of the
 // wrong number.
-#[repr(C)]
 #[derive(Clone, Copy)]
+#[repr(C)]
 pub struct nup_run_answer {
     pub number: u8,
     pub step: u8,
@@ -23,8 +23,8 @@ pub struct nup_run_answer {
 }
 
 // The same, with the yes or no on slot 0.
-#[repr(C)]
 #[derive(Clone, Copy)]
+#[repr(C)]
 pub struct nup_reach_answer {
     pub number: u8,
     pub step: u8,
