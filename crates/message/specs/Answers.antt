@@ -1,5 +1,5 @@
 -- What a reading and a writing are answered, and what they leave.
-use Rattle.std.specs.Prelude.{ℕ, zero, suc, ◌+◌, min, ◌≡◌, Bool, true, false, cond, List, [], ◌∷◌, ◌++◌, map, length, take, replicate, ltb, Float}
+use Rattle.std.specs.Prelude.{ℕ, zero, suc, min, ◌≡◌, Bool, true, false, cond, List, [], ◌∷◌, ◌++◌, map, length, take, replicate, ltb, Float}
 use Rattle.std.proofs.lemmas.List.Edits.{sets}
 use Rattle.floats.specs.Constants.{c0}
 use Rattle.morphology.specs.declared.operator.MorphologyOperator.TheVariants.{Dilate}
