@@ -5,7 +5,7 @@ use mathlib.Core.Bool.{Bool, true, false, cond, true≢false}
 use mathlib.Core.List.{List, [], ◌∷◌}
 use native.Mathlib.Omega.{arith}
 use borrow.Author.Tests.{eqb-false, lt-ltb, le-ltb}
-use lib.ListN.{length, replicate, length-replicate}
+use lib.ListN.{replicate, length-replicate}
 use lib.Dec.{ltb}
 use lib.Ieee.{Float}
 use types.Run.{OneOf, miss}
@@ -13,27 +13,24 @@ use denote.Enum.Declared.{tag_of}
 use Rattle.floats.specs.Constants.{c0}
 use Rattle.sheet.specs.declared.Answer.{Answer}
 use Rattle.sheet.specs.declared.Answer.TheVariants.{Done}
-use Rattle.sheet.specs.declared.Size.{Size}
-use Rattle.sheet.specs.Contract.{Lent, was, became}
-use Rattle.sheet.specs.Tabulate.{zeros}
+use Rattle.sheet.specs.Contract.{read_only, Lent, was, became}
 use Rattle.sheet.specs.Answer.{refusal, number, step_index}
 use Rattle.recipe.specs.declared.Recipe.{Recipe}
 use Rattle.recipe.specs.Tests.{step_of, run_answer}
 use Rattle.filter.specs.Slots.{Slots, slots, acts}
 use Rattle.filter.specs.Call.{Call, call, slots_were, slots_became, lengths, answer, all_steps, Ran}
-use Rattle.filter.specs.Reach.{Reach, step_reads, result, Reached, Reaching, ReachesExactly}
+use Rattle.filter.specs.Reach.{Reach, step_reads, result, Reaching, ReachesExactly}
 use Rattle.filter.specs.declared.ReachAnswer.{ReachAnswer}
 use Rattle.message.specs.declared.MessageAnswer.{MessageAnswer}
 use Rattle.message.specs.declared.MessageAnswer.TheVariants as message
 use Rattle.message.specs.declared.reading.Reading.{Reading}
 use Rattle.message.specs.Answers as answers
 use Rattle.message.specs.Answers.{offset, room_of, reading_answer, ReadExactly}
-use Rattle.message.specs.Message.{read_message}
 use Rattle.message.specs.contracts.MessageAnswer.{the_type}
 use Rattle.message.proofs.FirstSteps.{stays}
 use Rattle.nuprikhen.specs.declared.nup_recipes.nup_run_answer.{nup_run_answer}
 use Rattle.nuprikhen.specs.declared.nup_recipes.nup_reach_answer.{nup_reach_answer}
-use Rattle.nuprikhen.specs.Recipes.{message_answer, recipe_in, pool_in, kind_of, kind_answer, on_taken, ToldBoth, RunFrom, RunCalled, ReachingFrom, ReachFrom, ReachCalled}
+use Rattle.nuprikhen.specs.Recipes.{message_answer, recipe_in, pool_in, kind_of, kind_answer, on_taken, ToldBoth, RunFrom, ReachingFrom, ReachFrom}
 use Rattle.nuprikhen.specs.Inner.Recipes.{answer_by_kind, RanByKind, ReachedByKind, one_if, ReachTold}
 
 -- ---- the message
@@ -208,7 +205,7 @@ module _ {s : List ℕ} {pool : Lent Float} (rd : Reading) (x : ReadExactly s po
 
 -- the pool as it was left, lent for reading
 abbrev pub left : Lent Float → Lent Float
-left pool = record { entry = pool.exit; exit = pool.exit }
+left pool = read_only (became pool)
 
 module _ {s : List ℕ} {pool : Lent Float} (rd : Reading) (x : ReadExactly s pool rd) (z : was pool ≡ replicate 16384 c0) (d : rd.answer ≡ message.Done) (kind w h : ℕ) (source slot1 slot2 slot3 scratch : Lent ℕ) where
   pub run_left :

@@ -1,5 +1,5 @@
 -- Recipes across the C boundary: a message is read, then run; the contracts of `nup_run` and `nup_reaches`.
-use Rattle.std.specs.Prelude.{ℕ, ◌*◌, ◌<◌, ◌≡◌, cond, List, [], ◌∷◌, length, replicate, eqb, ltb, Float}
+use Rattle.std.specs.Prelude.{ℕ, ◌*◌, ◌<◌, ◌≡◌, cond, List, length, replicate, eqb, ltb, Float}
 use Rattle.std.proofs.lemmas.List.Edits.{sets}
 use Rattle.floats.specs.Constants.{c0}
 use Rattle.sheet.specs.declared.Answer.{Answer}

@@ -1,0 +1,7 @@
+-- The contract is taken over from the Rattle function.
+use mathlib.Core.Path.{refl}
+use Rattle.nuprikhen.proofs.Calls.{filtered_called}
+use Rattle.nuprikhen.proofs.nup_composite.nup_arithmetic.Goals as goal
+
+pub returns : goal.returns
+returns c = filtered_called refl refl c.arithmetic.ensures c.told.ensures
