@@ -22,7 +22,7 @@ use Rattle.convolve_matrix.specs.Edges.{is_read, place}
 abbrev pub kernel_limit : ℕ
 kernel_limit = 15
 
--- a side of the kernel is within 1..=kernelLimit, and the target within the side
+-- a side of the kernel is within 1..=kernel_limit, and the target within the side
 unfoldable pub is_side : (n target : ℕ) → Bool
 is_side n target = cond (leb n kernel_limit) (ltb target n) false
 

@@ -1,4 +1,4 @@
--- The numbers of `firstRoots`, one by one.
+-- The numbers of `first_roots`, one by one.
 use Rattle.std.proofs.Common.{◌≡◌, ℕ, zero, suc, ◌<◌, ◌≤◌, List, [], ◌∷◌, length, get_or, refl, ap, not-suc-le-zero, arith}
 use lib.Ieee.{Float, binary32}
 use Rattle.floats.specs.Root.{sqrt_of, first_roots}

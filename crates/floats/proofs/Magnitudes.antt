@@ -1,4 +1,4 @@
--- |x| cut to 2 ^ 31 rounds to the size that `roundTo 31` gives x, by cases of x and of its sign. Assumes nothing.
+-- |x| cut to 2 ^ 31 rounds to the size that `round_to 31` gives x, by cases of x and of its sign. Assumes nothing.
 use Rattle.std.proofs.Common.{◌≡◌, ℕ, ◌+◌, ◌*◌, ◌<◌, ◌≤◌, min, true, false, not, T, pos, neg_ℤ, sym, refl, ap, arith, le→leb, ltb→lt, nltb→le}
 use native.Mathlib.Nat.{min-eq_right}
 use lib.Ieee.{Float, nan, inf, fin, up, down, neg, lt}

@@ -110,7 +110,7 @@ near_high n q most h near = not_lt most q (λ (l : most < q). go (q * q) (most *
     go : (qq mm : ℕ) → mm + most + q ≤ qq → n < mm → qq < n + q → ⊥
     go qq mm b h a = omega arith
 
--- the number that `roundRoot` takes, from r the whole part of √n, by how 4 n compares with (2 r + 1)²
+-- the number that `round_root` takes, from r the whole part of √n, by how 4 n compares with (2 r + 1)²
 picked : (n r : ℕ) (o : Ordering) → 0 < r → Root n r → Cmp o (4 * n) ((2 * r + 1) * (2 * r + 1)) → Near n (nearest r o)
 picked n r Ordering.lt R h c = record { above = lo (r * r) h.0; under = hi (r * r) ((2 * r + 1) * (2 * r + 1)) (sq_odd r) c }
   where
@@ -136,7 +136,7 @@ cmp_cancel Ordering.lt a b z Z c = lt_of_mul-lt-mul_right z c
 cmp_cancel Ordering.eq a b z Z c = eq_of_mul-eq-mul_right z Z a b c
 cmp_cancel Ordering.gt a b z Z c = lt_of_mul-lt-mul_right z c
 
--- ---- `roundRoot`, from its n, w and k on
+-- ---- `round_root`, from its n, w and k on
 abbrev core : Format → ℕ → ℕ → ℕ → ℕ → Float
 core f n den w k = units f false (nearest (w / 2 ^ k) (compare (4 * n) ((2 * (w / 2 ^ k) + 1) * (2 * (w / 2 ^ k) + 1) * 4 ^ k * den))) k
 

@@ -8,7 +8,7 @@ use Rattle.sheet.specs.Answer.{refusal, and_then}
 abbrev pub side_limit : ℕ
 side_limit = 4096
 
--- a width or a height is within 1..=sideLimit
+-- a width or a height is within 1..=side_limit
 unfoldable pub is_side : ℕ → Bool
 is_side n = cond (eqb n 0) false (leb n side_limit)
 

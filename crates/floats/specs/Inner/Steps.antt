@@ -36,7 +36,7 @@ pub record ClampedUnit (c r : Float) : Type 0 where
 unfoldable pub signed_by : Bool → ℕ → ℤ
 signed_by s n = cond s (neg_ℤ (pos (min n 2147483648))) (pos (min n 2147483647))
 
--- r is |x|, cut to 2 ^ 31, so far as `roundTo 31` can tell; s is x's sign
+-- r is |x|, cut to 2 ^ 31, so far as `round_to 31` can tell; s is x's sign
 pub record Magnitude (s : Bool) (x r : Float) : Type 0 where
   pub inside : T (up_to 2147483648 r)
   pub same : signed_by s (away (num r) (den r)) ≡ round_to 31 x

@@ -26,7 +26,7 @@ colour red green blue = record { red = red; green = green; blue = blue }
 abbrev pub along_by : (scale : Float) → Normal → (length : Float) → Vector3 → Float
 along_by scale n length v = cond (flat n) v.z (dot (normal_vector scale n) v ⊘ length)
 
--- `lightFactor`, where it is given how far the ray's vector goes along the normal, and the vector's length n
+-- `light_factor`, where it is given how far the ray's vector goes along the normal, and the vector's length n
 abbrev pub factor_along : Reflection → (constant a n : Float) → Float
 factor_along Diffuse constant a n = constant ⊗ a
 factor_along Specular constant a n = cond (near_zero n) c0 (constant ⊗ (a ⊘ n))
