@@ -37,6 +37,7 @@ fn function_of(kind: u8, values: &[f32]) -> TransferFunction
 }
 
 // Tests 3, 4 and 5 of the function of this number.
+#[tactic(auto, using(crate::proofs::Functions::not_of_two))]
 fn test_numbered(kind: u8, values: &[f32]) -> Answer
     ensures { result ≡ tested_by kind (read_only values.now) }
 {

@@ -1,6 +1,7 @@
 -- Each branch is its case of the definition.
 use mathlib.Core.Path.{◌∙◌}
-use Rattle.nuprikhen.proofs.Functions.{below_three, above_three, not_of_two, of_two}
+use borrow.Author.Rules.{rules}
+use Rattle.nuprikhen.proofs.Functions.{below_three, above_three, of_two}
 use Rattle.nuprikhen.proofs.nup_component_transfer.test_numbered.Goals as goal
 
 pub returns-then-kind-lt3 : goal.returns-then-kind-lt3
@@ -9,8 +10,5 @@ returns-then-kind-lt3 c = c.test_function.ensures ∙ (rw c.function_of.ensures 
 pub returns-then-kind-ne3 : goal.returns-then-kind-ne3
 returns-then-kind-ne3 c = above_three _ _ c.if-kind-lt3.false c.if-kind-ne3.true
 
-pub returns-then-values-ne2 : goal.returns-then-values-ne2
-returns-then-values-ne2 c = not_of_two _ _ c.if-kind-ne3.false c.if-values-ne2.true
-
 pub returns : goal.returns
-returns c = c.test_function-2.ensures ∙ (rw c.linear_of.ensures (of_two _ _ c.if-kind-ne3.false c.if-values-ne2.false))
+returns c = c.test_function-2.ensures ∙ (rw c.linear_of.ensures (of_two _ _ c.if-kind-ne3.false (search rules)))
