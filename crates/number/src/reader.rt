@@ -5,7 +5,7 @@ ghost use Rattle.number.specs.Number.{number_at};
 use crate::{Number, read_number};
 
 // A reader holds the message and its place in it.
-#[derive(Drop)]
+#[derive(Clone, Copy)]
 pub struct Reader<'a> {
     pub message: &'a [u8],
     pub at: usize,

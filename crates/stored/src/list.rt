@@ -1,8 +1,8 @@
 // A list as the bytes of its file.
-ghost use Rattle.std.specs.Prelude.{◌≤◌, IfOk};
+ghost use Rattle.std.specs.Prelude.{◌≡◌, ◌≤◌, length, IfOk, OnErr};
 ghost use Rattle.stored.specs.Lists.{IsPrefixLen};
 
-use std::io::{ErrorKind, Read};
+use std::io::Read;
 use std::rt::Files;
 use std::{fs, io, str};
 
@@ -10,14 +10,13 @@ use std::{fs, io, str};
 pub const LIST: usize = 262144;
 
 // Fills `list` with the bytes of the file at `path`, and says how many there are. A file that cannot be opened or read gives its
-// error, which may leave some of the bytes in `list`; a path that is no UTF-8 cannot be opened.
+// error, which may leave some of its bytes in `list`; a path that is no UTF-8 names no file.
 pub fn read(rt: &impl Files, path: &[u8], list: &mut [u8; LIST]) -> io::Result<usize>
     ensures prefix_len { IfOk result (λ n. IsPrefixLen n list.new) }
     ensures upper_bound { IfOk result (λ n. n ≤ 262144) }
+    ensures on_error { OnErr result (length list.new ≡ 262144) }
 {
-    let Ok(path) = str::from_utf8(path) else {
-        return Err(io::Error::from(ErrorKind::InvalidInput));
-    };
+    let path = str::from_utf8(path).unwrap_or("");
     let mut file = fs::open(rt, path)?;
     fill(&mut file, list)
 }
