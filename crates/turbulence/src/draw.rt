@@ -133,7 +133,8 @@ fn draw_row(
     }
 }
 
-// Every row is drawn in the `count` columns from column `first` on.
+// Every row is drawn in the `count` columns from column `first` on. Inlined, it costs 8 KB of stack.
+#[inline(never)]
 fn draw_rows(
     t: Turbulence,
     selector: &[u8; 514],

@@ -1,4 +1,5 @@
 // The tables of a seed: 514 selector entries, and four sets of 514 gradient pairs side by side.
+// What fills arrays is not inlined, so that its stack is given back when it returns and not held through all of `draw`.
 ghost use Rattle.std.specs.Prelude.{◌≡◌};
 ghost use Rattle.sheet.specs.Tabulate.{tabulate};
 ghost use Rattle.turbulence.specs.Random.{State, next};
@@ -78,6 +79,7 @@ struct Pairs {
     state: u32,
 }
 
+#[inline(never)]
 fn draw_pairs(state: u32) -> Pairs
     requires { State state }
     ensures { (result.x ≡ drawn_x state) × (result.y ≡ drawn_y state) × (result.state ≡ after_pairs 1024 state) × State result.state }
@@ -101,6 +103,7 @@ fn draw_pairs(state: u32) -> Pairs
 }
 
 // The four channels' entries side by side; those from 256 on repeat the first.
+#[inline(never)]
 fn side_by_side(drawn: &[f64; 1024]) -> [f64; 2056]
     ensures { result ≡ side_by_side drawn.now }
 {
@@ -146,6 +149,7 @@ fn shuffled(state: u32) -> [u8; 256]
 }
 
 // The shuffled places; those from 256 on repeat the first.
+#[inline(never)]
 fn lattice_selector(state: u32) -> [u8; 514]
     requires { State state }
     ensures { result ≡ selector state }
