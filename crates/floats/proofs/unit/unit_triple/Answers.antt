@@ -21,28 +21,19 @@ returns-then-not-is_finite c =
 
 pub returns-then-not-is_finite-2 : goal.returns-then-not-is_finite-2
 returns-then-not-is_finite-2 c =
-    let first : finite c.args.x ≡ true = sym c.is_finite.ensures ∙ c.if-not-is_finite.false in
     let a = c.args in
-    sym (answer a.x a.y a.z true false (finite a.z) first (sym c.is_finite-2.ensures ∙ c.if-not-is_finite-2.true) refl)
+    sym (answer a.x a.y a.z true false (finite a.z) (sym c.is_finite.ensures ∙ c.if-not-is_finite.false) (sym c.is_finite-2.ensures ∙ c.if-not-is_finite-2.true) refl)
 
 pub returns-then-not-is_finite-3 : goal.returns-then-not-is_finite-3
 returns-then-not-is_finite-3 c =
-    let first : finite c.args.x ≡ true = sym c.is_finite.ensures ∙ c.if-not-is_finite.false in
-    let second : finite c.args.y ≡ true = sym c.is_finite-2.ensures ∙ c.if-not-is_finite-2.false in
     let a = c.args in
-    sym (answer a.x a.y a.z true true false first second (sym c.is_finite-3.ensures ∙ c.if-not-is_finite-3.true))
+    sym (answer a.x a.y a.z true true false (sym c.is_finite.ensures ∙ c.if-not-is_finite.false) (sym c.is_finite-2.ensures ∙ c.if-not-is_finite-2.false) (sym c.is_finite-3.ensures ∙ c.if-not-is_finite-3.true))
 
 pub finite_triple-requires : goal.finite_triple-requires
 finite_triple-requires c =
-    let first : finite c.args.x ≡ true = sym c.is_finite.ensures ∙ c.if-not-is_finite.false in
-    let second : finite c.args.y ≡ true = sym c.is_finite-2.ensures ∙ c.if-not-is_finite-2.false in
-    let third : finite c.args.z ≡ true = sym c.is_finite-3.ensures ∙ c.if-not-is_finite-3.false in
-    record { x_finite = T_true first; y_finite = T_true second; z_finite = T_true third }
+    record { x_finite = T_true (sym c.is_finite.ensures ∙ c.if-not-is_finite.false); y_finite = T_true (sym c.is_finite-2.ensures ∙ c.if-not-is_finite-2.false); z_finite = T_true (sym c.is_finite-3.ensures ∙ c.if-not-is_finite-3.false) }
 
 pub returns : goal.returns
 returns c =
-    let first : finite c.args.x ≡ true = sym c.is_finite.ensures ∙ c.if-not-is_finite.false in
-    let second : finite c.args.y ≡ true = sym c.is_finite-2.ensures ∙ c.if-not-is_finite-2.false in
-    let third : finite c.args.z ≡ true = sym c.is_finite-3.ensures ∙ c.if-not-is_finite-3.false in
     let a = c.args in
-    c.finite_triple.ensures ∙ sym (answer a.x a.y a.z true true true first second third)
+    c.finite_triple.ensures ∙ sym (answer a.x a.y a.z true true true (sym c.is_finite.ensures ∙ c.if-not-is_finite.false) (sym c.is_finite-2.ensures ∙ c.if-not-is_finite-2.false) (sym c.is_finite-3.ensures ∙ c.if-not-is_finite-3.false))
