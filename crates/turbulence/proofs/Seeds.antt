@@ -27,10 +27,10 @@ negated_remainder (pos (suc n)) d h = let no : ⊥ = let z = leb-true (suc n) 0 
 negated_remainder (negsuc n) d h = neg_ℤ-neg_ℤ (pos (suc n % d))
 
 -- the machine's numbers on the way: the remainder negated, and 1 more
-abbrev turned : ℤ → ℕ → ℤ
+abbrev pub turned : ℤ → ℕ → ℤ
 turned z d = pos 0 -ℤ to_z w32 (of_z w32 (rem_z z (pos d)))
 
-abbrev raised : ℤ → ℕ → ℤ
+abbrev pub raised : ℤ → ℕ → ℤ
 raised z d = to_z w32 (of_z w32 (turned z d)) +ℤ pos 1
 
 module _ (z : ℤ) (f : SFits w32 z) (h : le_z z (pos 0) ≡ true) (d : ℕ) (some : 0 < d) (few : d < 2147483648) where
