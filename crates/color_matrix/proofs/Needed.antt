@@ -13,7 +13,7 @@ use lib.Ieee.{Float, le, of_bits}
 use Rattle.floats.specs.Constants.{c0, c1}
 use Rattle.floats.specs.Channel.{normalized, from_normalized}
 use Rattle.floats.proofs.ByteNumbers.{neutral}
-use Rattle.sheet.specs.declared.Answer.TheVariants.{Done}
+use Rattle.sheet.specs.Answer.{Done}
 use Rattle.sheet.proofs.Apart.{Needed, all_but, length_all_but, at_but, not_at_but, needed}
 use Rattle.sheet.proofs.Tabulated.{get_d_tabulate}
 use Rattle.pool.specs.declared.Numbers.{Numbers}

@@ -6,7 +6,7 @@ use borrow.Author.Tests.{eqb-true}
 use lib.ListN.{length}
 use lib.Dec.{eqb}
 use lib.Ieee.{Float}
-use Rattle.sheet.specs.declared.Answer.TheVariants.{Done}
+use Rattle.sheet.specs.Answer.{Done}
 use Rattle.sheet.proofs.Answers.{cond_done}
 use Rattle.pool.specs.declared.Numbers.{Numbers}
 use Rattle.pool.specs.Pool.{is_in, numbers_of, range_answer}

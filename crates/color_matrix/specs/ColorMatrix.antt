@@ -3,9 +3,7 @@ use Rattle.std.specs.Prelude.{ℕ, ◌+◌, ◌*◌, ◌/◌, ◌%◌, cond, Lis
 use Rattle.std.specs.Float.Ieee.Scale.{finite}
 use Rattle.floats.specs.Channel.{normalized, from_normalized}
 use Rattle.floats.specs.Unit.{unit_pair}
-use Rattle.sheet.specs.declared.Answer.{Answer}
-use Rattle.sheet.specs.declared.Answer.TheVariants.{Done}
-use Rattle.sheet.specs.Answer.{refusal, and_then}
+use Rattle.sheet.specs.Answer.{Answer, Done, refusal, and_then}
 use Rattle.sheet.specs.Size.{sheets_answer}
 use Rattle.sheet.specs.Tabulate.{tabulate}
 use Rattle.pool.specs.declared.Numbers.{Numbers}

@@ -6,13 +6,13 @@ mod loops;
 mod pixel;
 
 ghost use Rattle.std.specs.Prelude.{◌≡◌, ◌%◌, length};
-ghost use Rattle.sheet.specs.declared.Answer.TheVariants.{Done};
+ghost use Rattle.sheet.specs.Answer.{Done};
 ghost use Rattle.sheet.specs.Contract.{lent, Filtered};
 ghost use Rattle.color_matrix.specs.ColorMatrix.{twenty_answer, saturate_answer, rotation_answer, matrix_answer, answer, recoloured};
 
 pub use pixel::{ColourRow, Components, Row};
 use pool::Numbers;
-use sheet::{Answer, Refusal};
+use sheet::Refusal;
 
 // What to apply. The twenty numbers of a Matrix stand in a lent pool; HueRotate takes a cosine and a sine.
 #[derive(Clone, Copy)]
@@ -24,46 +24,45 @@ pub enum ColorMatrix {
 }
 
 // Tests 4 and 5 of a cosine and a sine.
-fn test_rotation(cosine: f32, sine: f32) -> Answer
+fn test_rotation(cosine: f32, sine: f32) -> Result<(), Refusal>
     ensures { result ≡ rotation_answer cosine sine }
 {
     if !floats::is_finite(cosine) {
-        return Answer::Refused(Refusal::NotFinite, 0);
+        return Err(Refusal::NotFinite);
     }
     if !floats::is_finite(sine) {
-        return Answer::Refused(Refusal::NotFinite, 0);
+        return Err(Refusal::NotFinite);
     }
     if !floats::unit_pair(cosine, sine) {
-        return Answer::Refused(Refusal::Range, 0);
+        return Err(Refusal::Range);
     }
-    Answer::Done
+    Ok(())
 }
 
-fn test_saturate(v: f32) -> Answer
+fn test_saturate(v: f32) -> Result<(), Refusal>
     ensures { result ≡ saturate_answer v }
 {
-    let numbers = [v];
-    pool::test(&numbers)
+    pool::test(&[v])
 }
 
-fn test_matrix(numbers: Numbers, pool: &[f32]) -> Answer
+fn test_matrix(numbers: Numbers, pool: &[f32]) -> Result<(), Refusal>
     ensures { result ≡ twenty_answer numbers pool.now }
 {
     if numbers.count != 20 {
-        return Answer::Refused(Refusal::Shape, 0);
+        return Err(Refusal::Shape);
     }
-    pool::test_range(numbers, pool)
+    numbers.test(pool)
 }
 
 // Tests 3, 4 and 5.
-pub fn test(matrix: ColorMatrix, pool: &[f32]) -> Answer
+pub fn test(matrix: ColorMatrix, pool: &[f32]) -> Result<(), Refusal>
     ensures { result ≡ matrix_answer matrix pool.now }
 {
     match matrix {
         ColorMatrix::Matrix(numbers) => test_matrix(numbers, pool),
         ColorMatrix::Saturate(v) => test_saturate(v),
         ColorMatrix::HueRotate(cosine, sine) => test_rotation(cosine, sine),
-        ColorMatrix::LuminanceToAlpha => Answer::Done,
+        ColorMatrix::LuminanceToAlpha => Ok(()),
     }
 }
 
@@ -74,7 +73,7 @@ fn apply_tested(matrix: ColorMatrix, pool: &[f32], src: &mut [u8])
     ensures { src.new ≡ recoloured matrix pool.now src.old }
 {
     match matrix {
-        ColorMatrix::Matrix(numbers) => loops::matrix(pool::part(numbers, pool), src),
+        ColorMatrix::Matrix(numbers) => loops::matrix(numbers.part(pool), src),
         ColorMatrix::Saturate(v) => {
             let m = coefficients::saturation(v);
             loops::colours(&m, src);
@@ -96,17 +95,11 @@ pub fn apply(
     width: usize,
     height: usize,
     src: &mut [u8],
-) -> Answer
+) -> Result<(), Refusal>
     ensures { Filtered (answer matrix pool.now width height src.old) result (recoloured matrix pool.now src.old) (lent src.old src.new) }
 {
-    let sheets = sheet::test1(width, height, src.len());
-    let Answer::Done = sheets else {
-        return sheets;
-    };
-    let tested = test(matrix, pool);
-    let Answer::Done = tested else {
-        return tested;
-    };
+    sheet::test(width, height, &[src.len()])?;
+    test(matrix, pool)?;
     apply_tested(matrix, pool, src);
-    Answer::Done
+    Ok(())
 }

@@ -3,6 +3,7 @@ ghost use Rattle.std.specs.Prelude.{◌≡◌, ◌%◌, length};
 ghost use Rattle.color_matrix.specs.ColorMatrix as ColorMatrix;
 
 use crate::pixel;
+use sheet::pixel::map_pixels;
 
 // A matrix of four rows and five columns.
 pub fn matrix(m: &[f32], src: &mut [u8])
@@ -14,12 +15,7 @@ pub fn matrix(m: &[f32], src: &mut [u8])
     let g = pixel::matrix_row(m, 1);
     let b = pixel::matrix_row(m, 2);
     let a = pixel::matrix_row(m, 3);
-    let mut k = 0;
-    while k < src.len() {
-        let p = sheet::pixel::straight_at(&src[..], k);
-        sheet::pixel::put_straight(src, k, pixel::matrix_pixel(r, g, b, a, p));
-        k += 4;
-    }
+    map_pixels(src, |p| pixel::matrix_pixel(r, g, b, a, p));
 }
 
 // A matrix of the three colours.
@@ -31,12 +27,7 @@ pub fn colours(m: &[f32], src: &mut [u8])
     let r = pixel::colour_row(m, 0);
     let g = pixel::colour_row(m, 1);
     let b = pixel::colour_row(m, 2);
-    let mut k = 0;
-    while k < src.len() {
-        let p = sheet::pixel::straight_at(&src[..], k);
-        sheet::pixel::put_straight(src, k, pixel::colour_pixel(r, g, b, p));
-        k += 4;
-    }
+    map_pixels(src, |p| pixel::colour_pixel(r, g, b, p));
 }
 
 // The luminance as alpha.
@@ -44,10 +35,5 @@ pub fn luminance(src: &mut [u8])
     requires { length src.old % 4 ≡ 0 }
     ensures { src.new ≡ ColorMatrix.luminance_to_alpha src.old }
 {
-    let mut k = 0;
-    while k < src.len() {
-        let p = sheet::pixel::straight_at(&src[..], k);
-        sheet::pixel::put_straight(src, k, pixel::luminance_pixel(p));
-        k += 4;
-    }
+    map_pixels(src, |p| pixel::luminance_pixel(p));
 }

@@ -35,7 +35,7 @@ pub struct ColourRow {
 }
 
 pub fn to_normalized_components(pixel: Straight) -> Components
-    ensures { result ≡ Rows.components_of pixel.0 }
+    ensures { result ≡ Rows.components_of pixel.number }
 {
     Components {
         r: floats::normalized(pixel.red()),
@@ -89,7 +89,7 @@ fn colour_applied(row: ColourRow, c: Components) -> u8
 
 // A matrix of four rows applied to a pixel.
 pub fn matrix_pixel(r: Row, g: Row, b: Row, a: Row, pixel: Straight) -> Straight
-    ensures { ByMatrix r g b a pixel.0 result.0 }
+    ensures { ByMatrix r g b a pixel.number result.number }
 {
     let c = to_normalized_components(pixel);
     Straight::of(applied(r, c), applied(g, c), applied(b, c), applied(a, c))
@@ -97,7 +97,7 @@ pub fn matrix_pixel(r: Row, g: Row, b: Row, a: Row, pixel: Straight) -> Straight
 
 // A matrix of colours applied to a pixel, which keeps its alpha.
 pub fn colour_pixel(r: ColourRow, g: ColourRow, b: ColourRow, pixel: Straight) -> Straight
-    ensures { ByColours r g b pixel.0 result.0 }
+    ensures { ByColours r g b pixel.number result.number }
 {
     let c = to_normalized_components(pixel);
     Straight::of(
@@ -110,7 +110,7 @@ pub fn colour_pixel(r: ColourRow, g: ColourRow, b: ColourRow, pixel: Straight) -
 
 // A pixel without colour whose alpha is the luminance of a pixel.
 pub fn luminance_pixel(pixel: Straight) -> Straight
-    ensures { Channels result.0 0 0 0 (by_colour_row Rows.luminance pixel.0) }
+    ensures { Channels result.number 0 0 0 (by_colour_row Rows.luminance pixel.number) }
 {
     let c = to_normalized_components(pixel);
     let luminance = ColourRow {

@@ -1,5 +1,5 @@
 -- Each branch of the code is its case of the definition.
-use Prim.Native.Nat.{ℕ, ◌+◌, ◌-◌, ◌≤◌, ◌<◌, min}
+use Prim.Native.Nat.{ℕ, ◌+◌, ◌-◌, ◌≤◌, min}
 use mathlib.Core.Path.{◌≡◌, sym, ap, ◌∙◌}
 use mathlib.Core.Bool.{true, false, cond}
 use mathlib.Core.List.{List}
@@ -26,11 +26,8 @@ exact_float n h = le→leb n 16777216 (omega arith)
 
 -- ---- the index
 module _ (x : Float) (most k : ℕ) (h : most ≤ 255) (e : k ≡ floor_to 8 x) where
-  pub index_below : k < most → k ≡ min (floor_to 64 x) most
-  index_below l = let z = floor_up_to x most h in omega arith
-
-  pub index_most : most ≤ k → most ≡ min (floor_to 64 x) most
-  index_most l = let z = floor_up_to x most h in omega arith
+  pub index_cut : min most k ≡ min (floor_to 64 x) most
+  index_cut = let z = floor_up_to x most h in omega arith
 
 -- ---- the entries of a byte c
 module _ (values : List Float) (c : ℕ) {x : Float} {k : ℕ} (d : x ≡ normalized c) (h : c ≤ 255) (l : length values ≤ 256) where

@@ -1,14 +1,12 @@
 -- What the component transfer answers, and what byte k of its result is.
 use Rattle.std.specs.Prelude.{ℕ, zero, suc, ◌%◌, Bool, true, false, cond, List, [], ◌∷◌, length, get_or, leb, eqb, Float}
 use Rattle.floats.specs.Channel.{normalized, from_normalized}
-use Rattle.sheet.specs.declared.Answer.{Answer}
-use Rattle.sheet.specs.declared.Answer.TheVariants.{Done}
-use Rattle.sheet.specs.Answer.{number, refusal, on_done, and_then}
+use Rattle.sheet.specs.Answer.{Answer, Done, number, refusal, on_done, and_then}
 use Rattle.sheet.specs.Size.{sheets_answer}
 use Rattle.sheet.specs.Tabulate.{tabulate}
-use Rattle.sheet.specs.Contract.{Lent, was}
 use Rattle.pool.specs.declared.Numbers.{Numbers}
 use Rattle.pool.specs.Pool.{numbers_answer, numbers_of, range_answer}
+use Rattle.component_transfer.specs.declared.Channel.{Channel}
 use Rattle.component_transfer.specs.declared.TransferFunction.{TransferFunction}
 use Rattle.component_transfer.specs.declared.TransferFunction.TheVariants.{Identity, Table, Discrete, Linear}
 use Rattle.component_transfer.specs.Functions as Functions
@@ -79,16 +77,9 @@ transfer_at r g b a s k = of_channel r g b a (k % 4) (get_or s k 0)
 unfoldable pub transferred : (r g b a : ℕ → ℕ) → List ℕ → List ℕ
 transferred r g b a s = tabulate (length s) (transfer_at r g b a s)
 
--- ---- over a lent pool itself
-abbrev pub tested : TransferFunction → Lent Float → Answer
-tested f pool = function_answer f (was pool)
+-- ---- of a channel's function beside its pool
+abbrev pub tested : Channel → Answer
+tested c = function_answer c.function c.pool.now
 
-abbrev pub byte_of : TransferFunction → Lent Float → ℕ → ℕ
-byte_of f pool = transfer f (was pool)
-
--- of four functions, each beside its pool, and a sheet
-abbrev pub lent_answer : TransferFunction → Lent Float → TransferFunction → Lent Float → TransferFunction → Lent Float → TransferFunction → Lent Float → ℕ → ℕ → Lent ℕ → Answer
-lent_answer r reds g greens b blues a alphas w h src = answer (tested r reds) (tested g greens) (tested b blues) (tested a alphas) w h (was src)
-
-abbrev pub lent_bytes : TransferFunction → Lent Float → TransferFunction → Lent Float → TransferFunction → Lent Float → TransferFunction → Lent Float → Lent ℕ → List ℕ
-lent_bytes r reds g greens b blues a alphas src = transferred (byte_of r reds) (byte_of g greens) (byte_of b blues) (byte_of a alphas) (was src)
+abbrev pub byte_of : Channel → ℕ → ℕ
+byte_of c = transfer c.function c.pool.now

@@ -1,6 +1,6 @@
 // Each transfer function of a channel's byte.
+ghost use Rattle.sheet.specs.Answer.{Done};
 ghost use Rattle.std.specs.Prelude.{◌≡◌, false, ◌≤◌, ◌<◌, length};
-ghost use Rattle.sheet.specs.declared.Answer.TheVariants.{Done};
 ghost use Rattle.component_transfer.specs.Functions as Functions;
 ghost use Rattle.component_transfer.specs.Inner.Index as Index;
 ghost use Rattle.component_transfer.specs.ComponentTransfer as ComponentTransfer;
@@ -12,8 +12,7 @@ fn index(c: f32, n: usize, most: usize) -> usize
     requires { (n ≤ 256) × (most ≤ 255) }
     ensures { result ≡ Index.index c n most }
 {
-    let k = floats::floor_to_byte(c * (n as f32)) as usize;
-    if k < most { k } else { most }
+    most.min(floats::floor_to_byte(c * (n as f32)) as usize)
 }
 
 // Between two entries of a table.
@@ -71,8 +70,8 @@ fn number_of(f: TransferFunction, pool: &[f32], c: u8) -> f32
 {
     match f {
         TransferFunction::Identity => floats::normalized(c),
-        TransferFunction::Table(entries) => table(pool::part(entries, pool), c),
-        TransferFunction::Discrete(entries) => discrete(pool::part(entries, pool), c),
+        TransferFunction::Table(entries) => table(entries.part(pool), c),
+        TransferFunction::Discrete(entries) => discrete(entries.part(pool), c),
         TransferFunction::Linear(slope, intercept) => linear(slope, intercept, c),
     }
 }

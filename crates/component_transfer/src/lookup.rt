@@ -1,13 +1,12 @@
 // Each channel's function worked out once for every byte, and looked up pixel by pixel.
 ghost use Rattle.std.specs.Prelude.{◌≡◌, ◌%◌, length};
-ghost use Rattle.sheet.specs.declared.Answer.TheVariants.{Done};
+ghost use Rattle.sheet.specs.Answer.{Done};
 ghost use Rattle.sheet.specs.Tabulate.{tabulate};
-ghost use Rattle.component_transfer.specs.ComponentTransfer.{function_answer, transfer, transferred, byte_of};
+ghost use Rattle.component_transfer.specs.ComponentTransfer.{function_answer, transfer, transferred, tested, byte_of};
 ghost use Rattle.component_transfer.specs.Inner.Lookup.{LookedUp};
-ghost use Rattle.sheet.specs.Contract.{read_only};
 
-use crate::{TransferFunction, functions};
-use sheet::pixel::Straight;
+use crate::{Channel, TransferFunction, functions};
+use sheet::pixel::{Straight, map_pixels};
 
 // A function's byte for every byte.
 fn every_byte(f: TransferFunction, pool: &[f32]) -> [u8; 256]
@@ -15,18 +14,10 @@ fn every_byte(f: TransferFunction, pool: &[f32]) -> [u8; 256]
     ensures { result ≡ tabulate 256 (transfer f pool.now) }
 {
     let mut bytes = [0u8; 256];
-    let mut i: usize = 0;
-    while i < 256 {
+    for i in 0..256 {
         bytes[i] = functions::transfer(f, pool, i as u8);
-        i += 1;
     }
     bytes
-}
-
-fn wide(x: u8) -> usize
-    ensures { result ≡ x }
-{
-    x as usize
 }
 
 // A pixel whose channels are looked up, each in its own bytes.
@@ -37,40 +28,25 @@ fn looked_up(
     a: &[u8; 256],
     pixel: Straight,
 ) -> Straight
-    ensures { LookedUp r.now g.now b.now a.now pixel.0 result.0 }
+    ensures { LookedUp r.now g.now b.now a.now pixel.number result.number }
 {
     Straight::of(
-        r[wide(pixel.red())],
-        g[wide(pixel.green())],
-        b[wide(pixel.blue())],
-        a[wide(pixel.alpha())],
+        r[usize::from(pixel.red())],
+        g[usize::from(pixel.green())],
+        b[usize::from(pixel.blue())],
+        a[usize::from(pixel.alpha())],
     )
 }
 
 // Transfers every pixel by functions that passed the tests.
-pub fn transfer_all(
-    r: TransferFunction,
-    reds: &[f32],
-    g: TransferFunction,
-    greens: &[f32],
-    b: TransferFunction,
-    blues: &[f32],
-    a: TransferFunction,
-    alphas: &[f32],
-    src: &mut [u8],
-)
-    requires reds_value { (function_answer r reds.now ≡ Done) × (function_answer g greens.now ≡ Done) × (function_answer b blues.now ≡ Done) × (function_answer a alphas.now ≡ Done) }
+pub fn transfer_all(r: Channel, g: Channel, b: Channel, a: Channel, src: &mut [u8])
+    requires passed { (tested r ≡ Done) × (tested g ≡ Done) × (tested b ≡ Done) × (tested a ≡ Done) }
     requires src_len { length src.old % 4 ≡ 0 }
-    ensures { src.new ≡ transferred (byte_of r (read_only reds.now)) (byte_of g (read_only greens.now)) (byte_of b (read_only blues.now)) (byte_of a (read_only alphas.now)) src.old }
+    ensures { src.new ≡ transferred (byte_of r.entry) (byte_of g.entry) (byte_of b.entry) (byte_of a.entry) src.old }
 {
-    let red = every_byte(r, reds);
-    let green = every_byte(g, greens);
-    let blue = every_byte(b, blues);
-    let alpha = every_byte(a, alphas);
-    let mut k = 0;
-    while k < src.len() {
-        let p = sheet::pixel::straight_at(&src[..], k);
-        sheet::pixel::put_straight(src, k, looked_up(&red, &green, &blue, &alpha, p));
-        k += 4;
-    }
+    let red = every_byte(r.function, r.pool);
+    let green = every_byte(g.function, g.pool);
+    let blue = every_byte(b.function, b.pool);
+    let alpha = every_byte(a.function, a.pool);
+    map_pixels(src, |p| looked_up(&red, &green, &blue, &alpha, p));
 }

@@ -12,7 +12,7 @@ use Rattle.floats.specs.Constants.{c0, c1}
 use Rattle.floats.specs.Channel.{normalized, from_normalized}
 use Rattle.floats.specs.Order.{near_zero}
 use Rattle.floats.proofs.ByteNumbers.{there_and_back, near_zero_byte, clamp_passes, top_number, neutral}
-use Rattle.sheet.specs.declared.Answer.TheVariants.{Done}
+use Rattle.sheet.specs.Answer.{Done}
 use Rattle.sheet.proofs.Tabulated.{tabulated}
 use Rattle.sheet.proofs.Apart.{Bytes}
 use Rattle.pool.specs.Pool.{all, numbers_answer}

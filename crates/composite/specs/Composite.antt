@@ -1,7 +1,6 @@
 -- What arithmetic composition answers, and what byte k of its result is.
 use Rattle.std.specs.Prelude.{ℕ, ◌+◌, ◌*◌, ◌/◌, ◌%◌, List, [], ◌∷◌, length, get_or, Float}
-use Rattle.sheet.specs.declared.Answer.{Answer}
-use Rattle.sheet.specs.Answer.{and_then}
+use Rattle.sheet.specs.Answer.{Answer, and_then}
 use Rattle.sheet.specs.Size.{sheets_answer}
 use Rattle.sheet.specs.Tabulate.{tabulate}
 use Rattle.pool.specs.Pool.{numbers_answer}

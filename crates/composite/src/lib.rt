@@ -9,14 +9,14 @@ ghost use Rattle.composite.specs.Composite.{factors_answer, answer, composed};
 ghost use Rattle.composite.specs.Arithmetic.{factors};
 
 pub use pixel::Factors;
-use sheet::Answer;
+use sheet::Refusal;
+use sheet::pixel::Premultiplied;
 
 // Tests 4 and 5.
-pub fn test(k1: f32, k2: f32, k3: f32, k4: f32) -> Answer
+pub fn test(k1: f32, k2: f32, k3: f32, k4: f32) -> Result<(), Refusal>
     ensures { result ≡ factors_answer k1 k2 k3 k4 }
 {
-    let numbers = [k1, k2, k3, k4];
-    pool::test(&numbers)
+    pool::test(&[k1, k2, k3, k4])
 }
 
 // Composes pixel by pixel. Every pixel of `dest` is written.
@@ -26,12 +26,11 @@ fn compose(k: Factors, src1: &[u8], src2: &[u8], dest: &mut [u8])
     requires dest_len { length dest.old ≡ length src1.now }
     ensures { dest.new ≡ composed k src1.now src2.now }
 {
-    let mut at = 0;
-    while at < dest.len() {
-        let c1 = sheet::pixel::premultiplied_at(src1, at);
-        let c2 = sheet::pixel::premultiplied_at(src2, at);
-        sheet::pixel::put_premultiplied(dest, at, pixel::composed(k, c1, c2));
-        at += 4;
+    for i in 0..dest.len() / 4 {
+        let at = 4 * i;
+        let c1 = Premultiplied::at(src1, at);
+        let c2 = Premultiplied::at(src2, at);
+        pixel::composed(k, c1, c2).put(dest, at);
     }
 }
 
@@ -49,14 +48,11 @@ pub fn arithmetic(
     src1: &[u8],
     src2: &[u8],
     dest: &mut [u8],
-) -> Answer
+) -> Result<(), Refusal>
     ensures { Filtered (answer k1 k2 k3 k4 width height src1.now src2.now dest.old) result (composed (factors k1 k2 k3 k4) src1.now src2.now) (lent dest.old dest.new) }
 {
-    let sheets = sheet::test3(width, height, src1.len(), src2.len(), dest.len());
-    let tested = sheet::and_then(sheets, test(k1, k2, k3, k4));
-    let Answer::Done = tested else {
-        return tested;
-    };
+    sheet::test(width, height, &[src1.len(), src2.len(), dest.len()])?;
+    test(k1, k2, k3, k4)?;
     compose(Factors { k1, k2, k3, k4 }, src1, src2, dest);
-    Answer::Done
+    Ok(())
 }

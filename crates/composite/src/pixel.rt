@@ -32,7 +32,7 @@ fn colour(k: Factors, i1: u8, i2: u8, a: f32) -> u8
 
 // The pixel of the new alpha a.
 fn with_alpha(k: Factors, c1: Premultiplied, c2: Premultiplied, a: f32) -> Premultiplied
-    ensures { WithAlpha k c1.0 c2.0 a result.0 }
+    ensures { WithAlpha k c1.number c2.number a result.number }
 {
     Premultiplied::of(
         colour(k, c1.red(), c2.red(), a),
@@ -44,17 +44,17 @@ fn with_alpha(k: Factors, c1: Premultiplied, c2: Premultiplied, a: f32) -> Premu
 
 // A pixel, or the clear one where its alpha a is near zero.
 fn unless_clear(a: f32, pixel: Premultiplied) -> Premultiplied
-    ensures { result.0 ≡ cond (near_zero a) 0 pixel.0 }
+    ensures { result.number ≡ cond (near_zero a) 0 pixel.number }
 {
     if floats::near_zero(a) {
-        Premultiplied(0)
+        Premultiplied::numbered(0)
     } else {
         pixel
     }
 }
 
 pub fn composed(k: Factors, c1: Premultiplied, c2: Premultiplied) -> Premultiplied
-    ensures { Composed k c1.0 c2.0 result.0 }
+    ensures { Composed k c1.number c2.number result.number }
 {
     let a = calc(k, c1.alpha(), c2.alpha(), 1.0);
     unless_clear(a, with_alpha(k, c1, c2, a))

@@ -2,6 +2,7 @@
 use Prim.Native.Nat.{ℕ, suc, ◌+◌, ◌-◌, ◌%◌, ◌≤◌, ◌<◌, zero-le}
 use mathlib.Core.Path.{◌≡◌, refl, sym, ◌∙◌}
 use mathlib.Core.Bool.{true, false}
+use mathlib.Core.Logic.{◌⊎◌, ⊎_elim}
 use native.Mathlib.Nat.{mod-lt, mod-eq_of_lt}
 use native.Mathlib.Omega.{arith}
 use native.Mathlib.Decide.{dec_lt}
@@ -19,9 +20,6 @@ module _ (target n at : ℕ) where
 
   pub nearest_mid : target ≤ at → at - target ≤ n - 1 → at - target ≡ nearest n (sub_ℕ at target)
   nearest_mid h l = rw (le-ltb at target h) (omega arith)
-
-  pub nearest_high : target ≤ at → n - 1 ≤ at - target → n - 1 ≡ nearest n (sub_ℕ at target)
-  nearest_high h l = rw (le-ltb at target h) (omega arith)
 
   pub remainder_low : at < target → n - 1 - (target - at - 1) % n ≡ remainder n (sub_ℕ at target)
   remainder_low h =
@@ -63,6 +61,15 @@ module _ (target n at : ℕ) where
   own_place h l None = sym (nearest_mid h (omega arith))
   own_place h l Duplicate = sym (nearest_mid h (omega arith))
   own_place h l Wrap = sym (remainder_high h) ∙ mod-eq_of_lt l
+
+-- what is worked out for a mode is the place
+pub by_nearest : (mode : EdgeMode) (target n at : ℕ) {r : ℕ} → (mode ≡ None) ⊎ (mode ≡ Duplicate) → r ≡ nearest n (sub_ℕ at target) → r ≡ place mode target n at
+unfolding place
+by_nearest mode target n at m e = ⊎_elim (λ d. rw d e) (λ d. rw d e) m
+
+pub by_remainder : (mode : EdgeMode) (target n at : ℕ) {r : ℕ} → mode ≡ Wrap → r ≡ remainder n (sub_ℕ at target) → r ≡ place mode target n at
+unfolding place
+by_remainder mode target n at m e = rw m e
 
 -- ---- the span of n places from `at` on
 pub span_none : (target w n at : ℕ) → Span None target w n at (less_within target at n) (less_within (w + target) at n)

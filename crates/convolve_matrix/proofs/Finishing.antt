@@ -4,8 +4,10 @@ use mathlib.Core.Path.{◌≡◌, refl, sym, ap, ◌∙◌}
 use mathlib.Core.List.{List}
 use native.Mathlib.Nat.{add-zero}
 use native.Mathlib.Omega.{arith}
-use lib.ListN.{get_or}
+use borrow.Rule.Slice.PartMut.{put_mid}
+use lib.ListN.{length, get_or, replicate}
 use lib.Ieee.{Float, nan}
+use Rattle.std.proofs.lemmas.Grind.{elements}
 use Rattle.floats.specs.Constants.{c0}
 use Rattle.sheet.specs.Pixel.{channel, column, row, byte_at}
 use Rattle.sheet.specs.Inner.Strips.{Changed}
@@ -28,16 +30,18 @@ module _ (m : ConvolveMatrix) (sums : List Float) (s : List ℕ) (first k : ℕ)
       channel_of_lem (λ d. channel_of m d (get_or sums (k + d) nan) alpha) (channels_as q (rw add-zero refl) refl refl refl) c h ∙ rw (z, a) refl
 
 -- ---- one row of a strip
-module _ (m : ConvolveMatrix) (kernel : List Float) (w h : ℕ) (s : List ℕ) (x n y : ℕ) (fits : x + n ≤ w) (sums₀ sums₁ sums : List Float) (cleared : Changed nan (λ i. c0) 0 (4 * n) sums₀ sums₁) (added : Added (λ i c. in_order m.rows (row_sum m kernel w h s (x + i) y c)) n sums₁ sums) where
+-- the first n sums, which were lent, were filled with 0
+pub filled : (l p : List Float) (n k m : ℕ) → n ≤ length l → k ≡ n → m ≡ n → p ≡ replicate m c0 → (j : ℕ) → j < n → get_or (put_mid 0 k l p) j nan ≡ c0
+filled l p n k m room e f all j h = grind (arith, elements)
+
+module _ (m : ConvolveMatrix) (kernel : List Float) (w h : ℕ) (s : List ℕ) (x n y : ℕ) (fits : x + n ≤ w) (sums₁ sums : List Float) (zero : (j : ℕ) → j < 4 * n → get_or sums₁ j nan ≡ c0) (added : Added (λ i c. in_order m.rows (row_sum m kernel w h s (x + i) y c)) n sums₁ sums) where
   abbrev first : ℕ
   first = 4 * (y * w + x)
 
   sum_of : (i c : ℕ) → i < n → c < 4 → get_or sums (4 * i + c) nan ≡ sum_at m kernel w h s (x + i) y c
   unfolding sum_at
   sum_of i c p q =
-      let z : 0 + (4 * i + c) ≡ 4 * i + c = omega arith in
-      let e : get_or sums₁ (4 * i + c) nan ≡ c0 = ap (λ (k : ℕ). get_or sums₁ k nan) (sym z) ∙ cleared.inside (4 * i + c) (omega arith) in
-      added.each i c p q ∙ ap (in_order m.rows (row_sum m kernel w h s (x + i) y c)) e
+      added.each i c p q ∙ ap (in_order m.rows (row_sum m kernel w h s (x + i) y c)) (zero (4 * i + c) (omega arith))
 
   byte_finished : (j : ℕ) → j < 4 * n → finished_at m sums s first j ≡ convolved_at m kernel w h s (first + j)
   byte_finished j l =

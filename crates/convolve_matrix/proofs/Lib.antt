@@ -1,3 +1,4 @@
+pub mod Numbered
 pub mod Edging
 pub mod Orders
 pub mod Reading

@@ -6,8 +6,10 @@ use mathlib.Core.List.{List}
 use native.Mathlib.Nat.{suc-mul, mul-le-mul_right}
 use native.Mathlib.Omega.{arith}
 use native.Mathlib.Decide.{dec_lt}
-use lib.ListN.{get_or}
+use borrow.Rule.Slice.PartMut.{mid_of, put_mid}
+use lib.ListN.{length, get_or, take, drop}
 use lib.Ieee.{Float, nan}
+use Rattle.std.proofs.lemmas.Grind.{common_steps, elements}
 use Rattle.floats.specs.Channel.{normalized}
 use Rattle.floats.specs.Operators.{◌⊕◌, ◌⊗◌}
 use Rattle.sheet.specs.Pixel.{byte_at}
@@ -17,7 +19,9 @@ use Rattle.convolve_matrix.specs.declared.edge.EdgeMode.{EdgeMode}
 use Rattle.convolve_matrix.specs.declared.ConvolveMatrix.{ConvolveMatrix}
 use Rattle.convolve_matrix.specs.Edges.{is_read, place}
 use Rattle.convolve_matrix.specs.ConvolveMatrix.{in_order, turned, tapped, row_sum}
-use Rattle.convolve_matrix.specs.Inner.Rows.{Span, Widened, Added, shifted, shifted_by}
+use Rattle.convolve_matrix.specs.Inner.Rows.{Span, Widened, Added, shifted}
+use Rattle.convolve_matrix.proofs.Edging.{placed}
+use Rattle.convolve_matrix.proofs.Widening.{changed_part}
 use Rattle.convolve_matrix.proofs.Orders.{in_order_none, in_order_more, in_order_ext}
 
 -- the turned kernel's numbers are inside
@@ -46,6 +50,21 @@ module _ (n : ℕ) where
   added_as f g {l} {l'} a e = record { same = a.same; each = λ i c p q. a.each i c p q ∙ e i c p q (get_or l (4 * i + c) nan) }
 
 -- ---- one column of the window
+-- a part of the sums that was lent has taken in a part of the row, times k
+pub sums_grown : (k : Float) (row l p : List Float) (from at n a b : ℕ) → from + n ≤ length row → at + n ≤ length l → length p ≡ n → a ≡ n → b ≡ n → ((i : ℕ) → i < length (take a (drop from row)) → get_or p i nan ≡ get_or (mid_of at b l) i nan ⊕ get_or (take a (drop from row)) i nan ⊗ k) → Changed nan (λ i. get_or l (at + i) nan ⊕ get_or row (from + i) nan ⊗ k) at n l (put_mid at b l p)
+sums_grown k row l p from at n a b within room long e f each =
+    changed_part nan (λ i. get_or l (at + i) nan ⊕ get_or row (from + i) nan ⊗ k) at n b l p room long f
+    (λ i h. each i (inside i h) ∙ (ap (λ (x : Float). x ⊕ get_or (take a (drop from row)) i nan ⊗ k) (sum i h) ∙ ap (λ (x : Float). get_or l (at + i) nan ⊕ x ⊗ k) (number i h)))
+  where
+    inside : (i : ℕ) → i < n → i < length (take a (drop from row))
+    inside i h = grind (arith, common_steps)
+
+    sum : (i : ℕ) → i < n → get_or (mid_of at b l) i nan ≡ get_or l (at + i) nan
+    sum i h = grind (arith, elements)
+
+    number : (i : ℕ) → i < n → get_or (take a (drop from row)) i nan ≡ get_or row (from + i) nan
+    number i h = grind (arith, elements)
+
 module _ (mode : EdgeMode) (target w x n : ℕ) (kernel : List Float) (base columns : ℕ) (row : List Float) (ox from to : ℕ) (span : Span mode target w n (x + ox) from to) (l l' : List Float) where
   abbrev k : Float
   k = get_or kernel (base + (columns - ox - 1)) nan
@@ -77,19 +96,25 @@ module _ (m : ConvolveMatrix) (kernel : List Float) (w h : ℕ) (s : List ℕ) (
   abbrev line : ℕ
   line = place m.edge_mode m.target_y h (y + oy)
 
+  abbrev by_row : List Float → (i c ox : ℕ) → Float → Float
+  by_row row = shifted m.edge_mode m.target_x w x kernel ((m.rows - oy - 1) * m.columns) m.columns row
+
   pub row_skipped : is_read m.edge_mode m.target_y h (y + oy) ≡ false → (l : List Float) → Added (λ i c. row_sum m kernel w h s (x + i) y c oy) n l l
   unfolding row_sum
   row_skipped e l = record { same = refl; each = λ i c p q. rw e }
 
-  pub row_added : {row₀ row l l' : List Float} (v : ℕ) → v ≡ line → is_read m.edge_mode m.target_y h (y + oy) ≡ true → Widened m.edge_mode m.target_x w s (4 * (v * w)) x 0 (n + (m.columns - 1)) row₀ row → Added (λ i c. in_order m.columns (shifted_by m kernel w x row oy i c)) n l l' → Added (λ i c. row_sum m kernel w h s (x + i) y c oy) n l l'
+  pub row_added : {row₀ row l l' : List Float} (bytes : List ℕ) → ((k : ℕ) → k < 4 * w → get_or bytes k 0 ≡ get_or s (4 * (line * w) + k) 0) → 0 < w → is_read m.edge_mode m.target_y h (y + oy) ≡ true → Widened m.edge_mode m.target_x w bytes x 0 (n + (m.columns - 1)) row₀ row → Added (λ i c. in_order m.columns (by_row row i c)) n l l' → Added (λ i c. row_sum m kernel w h s (x + i) y c oy) n l l'
   unfolding row_sum
-  row_added {row₀} {row} {l} {l'} v is e wide a =
-      added_as n (λ i c. in_order m.columns (shifted_by m kernel w x row oy i c)) (λ i c. row_sum m kernel w h s (x + i) y c oy) a
-      (λ i c p q t. rw e (in_order_ext m.columns (shifted_by m kernel w x row oy i c) (tapped m kernel w s (x + i) c line oy) t (λ ox u t. same i c ox t p q u)))
+  row_added {row₀} {row} {l} {l'} bytes of_line some e wide a =
+      added_as n (λ i c. in_order m.columns (by_row row i c)) (λ i c. row_sum m kernel w h s (x + i) y c oy) a
+      (λ i c p q t. rw e (in_order_ext m.columns (by_row row i c) (tapped m kernel w s (x + i) c line oy) t (λ ox u t. same i c ox t p q u)))
     where
-      same : (i c ox : ℕ) (t : Float) → i < n → c < 4 → ox < m.columns → shifted_by m kernel w x row oy i c ox t ≡ tapped m kernel w s (x + i) c line oy ox t
+      same : (i c ox : ℕ) (t : Float) → i < n → c < 4 → ox < m.columns → by_row row i c ox t ≡ tapped m kernel w s (x + i) c line oy ox t
       same i c ox t p q u =
           let o : x + (i + ox) ≡ x + i + ox = omega arith in
-          let z : 4 * (v * w) + 4 * place m.edge_mode m.target_x w (x + i + ox) + c ≡ byte_at w (place m.edge_mode m.target_x w (x + i + ox)) line c = ap (λ (k : ℕ). 4 * (k * w) + 4 * place m.edge_mode m.target_x w (x + i + ox) + c) is ∙ omega arith in
-          let r : get_or row (4 * (i + ox) + c) nan ≡ normalized (get_or s (byte_at w (place m.edge_mode m.target_x w (x + i + ox)) line c) 0) = rw o at (wide.inside (i + ox) c (omega arith) (omega arith) q) ∙ ap (λ (j : ℕ). normalized (get_or s j 0)) z in
+          let v = place m.edge_mode m.target_x w (x + i + ox) in
+          let inside = placed m.target_x w (x + i + ox) some m.edge_mode in
+          let z : 4 * (line * w) + (4 * v + c) ≡ byte_at w v line c = omega arith in
+          let r : get_or row (4 * (i + ox) + c) nan ≡ normalized (get_or s (byte_at w v line c) 0) =
+          rw o at (wide.inside (i + ox) c (omega arith) (omega arith) q) ∙ ap normalized (of_line (4 * v + c) (omega arith) ∙ ap (λ (j : ℕ). get_or s j 0) z) in
           ap (λ (f : Float). cond (is_read m.edge_mode m.target_x w (x + i + ox)) (t ⊕ f ⊗ turned m kernel oy ox) t) r

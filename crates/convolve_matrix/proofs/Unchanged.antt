@@ -21,7 +21,7 @@ use Rattle.floats.specs.Inner.Steps.{plain}
 use Rattle.floats.proofs.EveryByte.{every, below}
 use Rattle.floats.proofs.ByteNumbers.{times_one, zero_times, plus_zero, zero_plus, clamp_passes, top_number}
 use Rattle.floats.proofs.Units.{value_unique, in_units_lem}
-use Rattle.sheet.specs.declared.Answer.TheVariants.{Done}
+use Rattle.sheet.specs.Answer.{Done}
 use Rattle.sheet.specs.Pixel.{column, row, byte_at}
 use Rattle.sheet.proofs.Apart.{Bytes}
 use Rattle.sheet.proofs.Places.{column_inside, row_inside, byte_place}

@@ -7,9 +7,7 @@ use Rattle.floats.specs.Channel.{normalized}
 use Rattle.floats.specs.Constants.{c0, half, c1, c255, c65536, m65536}
 use Rattle.floats.specs.Operators.{◌⊕◌, ◌⊗◌, ◌⊘◌}
 use Rattle.floats.specs.Order.{bound, within}
-use Rattle.sheet.specs.declared.Answer.{Answer}
-use Rattle.sheet.specs.declared.Answer.TheVariants.{Done}
-use Rattle.sheet.specs.Answer.{refusal, and_then}
+use Rattle.sheet.specs.Answer.{Answer, Done, refusal, and_then}
 use Rattle.sheet.specs.Size.{sheets_answer}
 use Rattle.sheet.specs.Tabulate.{tabulate}
 use Rattle.sheet.specs.Pixel.{column, row, byte_at}

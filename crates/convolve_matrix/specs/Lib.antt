@@ -1,4 +1,5 @@
 pub mod Edges
 pub mod ConvolveMatrix
+pub mod Numbered
 pub mod Reads
 pub mod Inner

@@ -5,14 +5,16 @@ mod edge;
 mod pixel;
 mod rows;
 mod sheets;
+mod strip;
 
 ghost use Rattle.std.specs.Prelude.{◌≡◌};
 ghost use Rattle.sheet.specs.Contract.{lent, Filtered, Cleared};
 ghost use Rattle.convolve_matrix.specs.ConvolveMatrix.{is_side, is_divisor, is_kernel, are_finite, are_in_range, kernel_answer, answer, convolved};
 
-pub use edge::EdgeMode;
+pub use edge::{EdgeMode, UnknownEdgeMode};
 use pool::Numbers;
-use sheet::{Answer, Refusal};
+use sheet::Refusal;
+use strip::Convolution;
 
 // What to apply. The kernel's numbers, row by row, stand in a lent pool.
 #[derive(Clone, Copy)]
@@ -37,81 +39,68 @@ const NUMBER_LIMIT: f32 = 65536.0;
 const DIVISOR_LEAST: f32 = 0.0000152587890625;
 
 // Whether a side of the kernel is within 1..=KERNEL_LIMIT, and the target within the side.
+#[tactic(auto, unfolding(crate::specs::ConvolveMatrix::is_side))]
 fn is_side(n: u32, target: u32) -> bool
     ensures { result ≡ is_side n target }
 {
-    if n <= KERNEL_LIMIT { target < n } else { false }
+    n <= KERNEL_LIMIT && target < n
 }
 
 fn is_divisor(divisor: f32) -> bool
     ensures { result ≡ is_divisor divisor }
 {
-    if floats::within(DIVISOR_LEAST, divisor, NUMBER_LIMIT) {
-        true
-    } else {
-        floats::within(-NUMBER_LIMIT, divisor, -DIVISOR_LEAST)
-    }
+    floats::within(DIVISOR_LEAST, divisor, NUMBER_LIMIT)
+        || floats::within(-NUMBER_LIMIT, divisor, -DIVISOR_LEAST)
 }
 
-// Test 3, of a pool of n numbers.
-fn is_kernel(matrix: ConvolveMatrix, n: usize) -> bool
-    ensures { result ≡ is_kernel matrix n }
-{
-    if !is_side(matrix.columns, matrix.target_x) {
-        return false;
+impl ConvolveMatrix {
+    // Test 3, of a pool of n numbers.
+    #[tactic(auto, unfolding(crate::specs::ConvolveMatrix::is_kernel))]
+    fn is_kernel(self, n: usize) -> bool
+        ensures { result ≡ is_kernel self n }
+    {
+        is_side(self.columns, self.target_x)
+            && is_side(self.rows, self.target_y)
+            && self.matrix.count == self.rows * self.columns
+            && self.matrix.is_in(n)
     }
-    if !is_side(matrix.rows, matrix.target_y) {
-        return false;
-    }
-    if matrix.matrix.count != matrix.rows * matrix.columns {
-        return false;
-    }
-    pool::is_in(matrix.matrix, n)
-}
 
-// Test 4.
-fn are_finite(matrix: ConvolveMatrix, kernel: &[f32]) -> bool
-    ensures { result ≡ are_finite matrix kernel.now }
-{
-    if !pool::all_finite(kernel) {
-        return false;
+    // Test 4.
+    #[tactic(auto, unfolding(crate::specs::ConvolveMatrix::are_finite))]
+    fn are_finite(self, kernel: &[f32]) -> bool
+        ensures { result ≡ are_finite self kernel.now }
+    {
+        pool::all_finite(kernel) && floats::is_finite(self.divisor) && floats::is_finite(self.bias)
     }
-    if !floats::is_finite(matrix.divisor) {
-        return false;
-    }
-    floats::is_finite(matrix.bias)
-}
 
-// Test 5.
-fn are_in_range(matrix: ConvolveMatrix, kernel: &[f32]) -> bool
-    ensures { result ≡ are_in_range matrix kernel.now }
-{
-    if !pool::all_in_range(kernel) {
-        return false;
+    // Test 5.
+    #[tactic(auto, unfolding(crate::specs::ConvolveMatrix::are_in_range))]
+    fn are_in_range(self, kernel: &[f32]) -> bool
+        ensures { result ≡ are_in_range self kernel.now }
+    {
+        pool::all_in_range(kernel) && is_divisor(self.divisor) && pool::is_number(self.bias)
     }
-    if !is_divisor(matrix.divisor) {
-        return false;
-    }
-    pool::is_number(matrix.bias)
 }
 
 // Tests 3, 4 and 5.
-pub fn test(matrix: ConvolveMatrix, pool: &[f32]) -> Answer
+#[tactic(auto, unfolding(crate::specs::ConvolveMatrix::kernel_answer))]
+pub fn test(matrix: ConvolveMatrix, pool: &[f32]) -> Result<(), Refusal>
     ensures { result ≡ kernel_answer matrix pool.now }
 {
-    if !is_kernel(matrix, pool.len()) {
-        return Answer::Refused(Refusal::Shape, 0);
+    let kernel = matrix.matrix.part(pool);
+    if !matrix.is_kernel(pool.len()) {
+        return Err(Refusal::Shape);
     }
-    if !are_finite(matrix, pool::part(matrix.matrix, pool)) {
-        return Answer::Refused(Refusal::NotFinite, 0);
+    if !matrix.are_finite(kernel) {
+        return Err(Refusal::NotFinite);
     }
-    if !are_in_range(matrix, pool::part(matrix.matrix, pool)) {
-        return Answer::Refused(Refusal::Range, 0);
+    if !matrix.are_in_range(kernel) {
+        return Err(Refusal::Range);
     }
-    Answer::Done
+    Ok(())
 }
 
-// Applies a convolve matrix in place.
+// Applies a convolve matrix in place: the result is worked out from a copy in `scratch`.
 //
 // `src` pixels should have a premultiplied alpha, or a straight one where alpha is preserved, and will have a
 // premultiplied one. `scratch` is as long as `src`, and all zero afterwards.
@@ -122,25 +111,21 @@ pub fn apply(
     height: usize,
     src: &mut [u8],
     scratch: &mut [u8],
-) -> Answer
+) -> Result<(), Refusal>
     ensures filtered { Filtered (answer matrix pool.now width height src.old scratch.old) result (convolved matrix pool.now width height src.old) (lent src.old src.new) }
     ensures cleared { Cleared 0 (answer matrix pool.now width height src.old scratch.old) (lent scratch.old scratch.new) }
 {
-    let sheets = sheet::test2(width, height, src.len(), scratch.len());
-    let Answer::Done = sheets else {
-        return sheets;
-    };
-    let tested = test(matrix, pool);
-    let Answer::Done = tested else {
-        return tested;
-    };
-    sheets::convolve(
+    sheet::test(width, height, &[src.len(), scratch.len()])?;
+    test(matrix, pool)?;
+    sheet::copy(src, scratch);
+    let convolution = Convolution {
         matrix,
-        pool::part(matrix.matrix, pool),
+        kernel: matrix.matrix.part(pool),
         width,
         height,
-        src,
-        scratch,
-    );
-    Answer::Done
+        src: scratch,
+    };
+    convolution.convolve_into(src);
+    sheet::clear(scratch);
+    Ok(())
 }

@@ -1,198 +1,116 @@
-// The sums of one row of a strip: the n columns from column x on. A row of the sheet is widened there: its channels' numbers,
-// with those of the places that the window reaches on either side, so that every column of the window is a shift of it.
-ghost use Rattle.std.specs.Prelude.{◌≡◌, ◌+◌, ◌-◌, ◌*◌, ◌≤◌, ◌<◌, length, get_or};
+// The sums of one row of a strip. A row of the sheet is widened there: its channels' numbers, with those of the places that
+// the window reaches on either side, so that every column of the window is a shift of it.
+ghost use Rattle.std.specs.Prelude.{◌≡◌, ℕ, ◌+◌, ◌-◌, ◌*◌, ◌≤◌, ◌<◌, length, get_or};
 ghost use Rattle.std.specs.Float.{nan};
-ghost use Rattle.floats.specs.Constants.{c0};
 ghost use Rattle.floats.specs.Channel.{normalized};
 ghost use Rattle.floats.specs.Operators.{◌⊕◌, ◌⊗◌};
-ghost use Rattle.sheet.specs.Size.{side_limit, Sized};
-ghost use Rattle.sheet.specs.Inner.Strips.{Changed};
-ghost use Rattle.convolve_matrix.specs.ConvolveMatrix.{row_sum, in_order};
-ghost use Rattle.convolve_matrix.specs.Inner.Rows.{Kernel, Widened, Added, shifted_by};
+ghost use Rattle.convolve_matrix.specs.ConvolveMatrix.{in_order};
+ghost use Rattle.convolve_matrix.specs.Inner.Rows.{Widened, Added};
+ghost use Rattle.convolve_matrix.specs.Inner.Strips.{row_sum_of, shifted_of};
 
-use crate::edge::EdgeMode;
-use crate::{ConvolveMatrix, edge};
+use crate::edge::Side;
+use crate::strip::{Strip, Work};
 
-// The first n sums become 0.
-pub fn clear(sums: &mut [f32], n: usize)
-    requires { n ≤ length sums.old }
-    ensures { Changed nan (λ i. c0) 0 n sums.old sums.new }
+// The numbers become those of the bytes.
+//
+// An index, here and below, and no `zip`: what a slice holds after `iter_mut().zip(..)` can't be proved.
+fn to_numbers(bytes: &[u8], numbers: &mut [f32])
+    requires { length numbers.old ≡ length bytes.now }
+    ensures { (i : ℕ) → i < length bytes.now → get_or numbers.new i nan ≡ normalized (get_or bytes.now i 0) }
 {
-    let mut i = 0;
-    while i < n {
-        sums[i] = 0.0;
-        i += 1;
+    for (i, number) in numbers.iter_mut().enumerate() {
+        *number = floats::normalized(bytes[i]);
     }
 }
 
-// The n numbers of `row` from `at` on become those of the bytes of `src` from `other` on.
-fn to_numbers(src: &[u8], other: usize, row: &mut [f32], at: usize, n: usize)
-    requires n_in_bounds { other + n ≤ length src.now }
-    requires n_in_bounds_2 { at + n ≤ length row.old }
-    ensures { Changed nan (λ i. normalized (get_or src.now (other + i) 0)) at n row.old row.new }
+// Each sum grows by k times its number.
+fn accumulate(k: f32, numbers: &[f32], sums: &mut [f32])
+    requires { length sums.old ≡ length numbers.now }
+    ensures { (i : ℕ) → i < length numbers.now → get_or sums.new i nan ≡ get_or sums.old i nan ⊕ get_or numbers.now i nan ⊗ k }
 {
-    let mut i = 0;
-    while i < n {
-        row[at + i] = floats::normalized(src[other + i]);
-        i += 1;
+    for (i, sum) in sums.iter_mut().enumerate() {
+        *sum += numbers[i] * k;
     }
 }
 
-// n sums from `at` on grow by k times the numbers of `row` from `other` on.
-fn accumulate(k: f32, row: &[f32], other: usize, sums: &mut [f32], at: usize, n: usize)
-    requires n_in_bounds { other + n ≤ length row.now }
-    requires n_in_bounds_2 { at + n ≤ length sums.old }
-    ensures { Changed nan (λ i. get_or sums.old (at + i) nan ⊕ get_or row.now (other + i) nan ⊗ k) at n sums.old sums.new }
+// The places from lo up to hi, counted from place x of the line, get the numbers that are read for them.
+fn widen_places(side: Side, line: &[u8], x: usize, lo: usize, hi: usize, row: &mut [f32])
+    requires line { (length line.now ≡ 4 * side.places) × (x ≤ side.places) }
+    requires places { (lo ≤ hi) × (4 * hi ≤ length row.old) }
+    ensures { Widened side.mode side.target side.places line.now x lo hi row.old row.new }
 {
-    let mut i = 0;
-    while i < n {
-        sums[at + i] = sums[at + i] + row[other + i] * k;
-        i += 1;
+    for e in lo..hi {
+        let column = side.place(x + e);
+        to_numbers(
+            &line[4 * column..4 * column + 4],
+            &mut row[4 * e..4 * e + 4],
+        );
     }
 }
 
-// The strip's places from lo up to hi, of the row whose bytes begin at `first`.
-fn widen_places(
-    mode: EdgeMode,
-    target: usize,
-    w: usize,
-    src: &[u8],
-    first: usize,
-    x: usize,
-    lo: usize,
-    hi: usize,
-    row: &mut [f32],
-)
-    requires w_nonzero { (0 < w) × (first + 4 * w ≤ length src.now) × (x ≤ w) }
-    requires lo_le_hi { (lo ≤ hi) × (4 * hi ≤ length row.old) }
-    ensures { Widened mode target w src.now first x lo hi row.old row.new }
+// Likewise the places up to `end`: the line's own are read at once.
+fn widen(side: Side, line: &[u8], x: usize, end: usize, row: &mut [f32])
+    requires line { (length line.now ≡ 4 * side.places) × (x ≤ side.places) }
+    requires places { (side.target ≤ end) × (4 * end ≤ length row.old) }
+    ensures { Widened side.mode side.target side.places line.now x 0 end row.old row.new }
 {
-    let mut e = lo;
-    while e < hi {
-        let column = edge::place(mode, target, w, x + e);
-        to_numbers(src, first + 4 * column, row, 4 * e, 4);
-        e += 1;
-    }
-}
-
-// Every place that the window reaches from the strip, of the row whose bytes begin at `first`: the row's own are read at once.
-fn widen(
-    mode: EdgeMode,
-    target: usize,
-    columns: usize,
-    w: usize,
-    src: &[u8],
-    first: usize,
-    x: usize,
-    n: usize,
-    row: &mut [f32],
-)
-    requires w_nonzero { (0 < w) × (first + 4 * w ≤ length src.now) × (x + n ≤ w) }
-    requires target_lt_columns { (target < columns) × (4 * (n + (columns - 1)) ≤ length row.old) }
-    ensures { Widened mode target w src.now first x 0 (n + (columns - 1)) row.old row.new }
-{
-    let end = n + (columns - 1);
-    let lo = edge::less_within(target, x, end);
-    let hi = edge::less_within(w + target, x, end);
-    widen_places(mode, target, w, src, first, x, 0, lo, row);
-    let column = x + lo - target;
-    to_numbers(src, first + 4 * column, row, 4 * lo, 4 * (hi - lo));
-    widen_places(mode, target, w, src, first, x, hi, end, row);
-}
-
-// Each of the strip's sums takes in row oy of the window, whose numbers are in `row`.
-fn add_columns(
-    matrix: ConvolveMatrix,
-    kernel: &[f32],
-    oy: usize,
-    w: usize,
-    x: usize,
-    n: usize,
-    row: &[f32],
-    sums: &mut [f32],
-)
-    requires kernel { Kernel matrix kernel.now × (oy < matrix.rows) }
-    requires w_le_side_limit { (w ≤ side_limit) × (x + n ≤ w) }
-    requires columns_in_bounds { (4 * (n + (matrix.columns - 1)) ≤ length row.now) × (4 * n ≤ length sums.old) }
-    ensures { Added (λ i c. in_order matrix.columns (shifted_by matrix kernel.now w x row.now oy i c)) n sums.old sums.new }
-{
-    let mode = matrix.edge_mode;
-    let columns = matrix.columns as usize;
-    let target = matrix.target_x as usize;
-    let base = ((matrix.rows as usize) - oy - 1) * columns;
-    let mut ox = 0;
-    while ox < columns {
-        let turned = columns - ox - 1;
-        let k = kernel[base + turned];
-        let span = edge::span_of(mode, target, w, n, x + ox);
-        let from = span.from;
-        let count = span.to - from;
-        accumulate(k, row, 4 * (from + ox), sums, 4 * from, 4 * count);
-        ox += 1;
-    }
-}
-
-// The sums of the strip's row y take in row oy of the window.
-fn add_row(
-    matrix: ConvolveMatrix,
-    kernel: &[f32],
-    w: usize,
-    h: usize,
-    src: &[u8],
-    x: usize,
-    n: usize,
-    y: usize,
-    oy: usize,
-    row: &mut [f32],
-    sums: &mut [f32],
-)
-    requires kernel { Kernel matrix kernel.now × (oy < matrix.rows) × (y < h) }
-    requires sized { Sized w h × (length src.now ≡ 4 * w * h) × (x + n ≤ w) }
-    requires columns_in_bounds { (4 * (n + (matrix.columns - 1)) ≤ length row.old) × (4 * n ≤ length sums.old) }
-    ensures { Added (λ i c. row_sum matrix kernel.now w h src.now (x + i) y c oy) n sums.old sums.new }
-{
-    let mode = matrix.edge_mode;
-    let target = matrix.target_y as usize;
-    if !edge::is_read(mode, target, h, y + oy) {
-        return;
-    }
-    let line = edge::place(mode, target, h, y + oy);
-    widen(
-        mode,
-        matrix.target_x as usize,
-        matrix.columns as usize,
-        w,
-        src,
-        4 * (line * w),
-        x,
-        n,
-        row,
+    let own = side.own(x, end);
+    widen_places(side, line, x, 0, own.start, row);
+    let column = x + own.start - side.target;
+    let past = x + own.end - side.target;
+    to_numbers(
+        &line[4 * column..4 * past],
+        &mut row[4 * own.start..4 * own.end],
     );
-    add_columns(matrix, kernel, oy, w, x, n, row, sums);
+    widen_places(side, line, x, own.end, end, row);
 }
 
-// The sums of the strip's row y take in their windows. `row` is work space.
-pub fn add_rows(
-    matrix: ConvolveMatrix,
-    kernel: &[f32],
-    w: usize,
-    h: usize,
-    src: &[u8],
-    x: usize,
-    n: usize,
-    y: usize,
-    row: &mut [f32],
-    sums: &mut [f32],
-)
-    requires kernel { Kernel matrix kernel.now × (y < h) }
-    requires sized { Sized w h × (length src.now ≡ 4 * w * h) × (x + n ≤ w) }
-    requires columns_in_bounds { (4 * (n + (matrix.columns - 1)) ≤ length row.old) × (4 * n ≤ length sums.old) }
-    ensures { Added (λ i c. in_order matrix.rows (row_sum matrix kernel.now w h src.now (x + i) y c)) n sums.old sums.new }
-{
-    let rows = matrix.rows as usize;
-    let mut oy = 0;
-    while oy < rows {
-        add_row(matrix, kernel, w, h, src, x, n, y, oy, row, sums);
-        oy += 1;
+impl Strip<'_> {
+    // Each sum takes in row oy of the window, whose numbers are in `row`.
+    fn add_columns(&self, oy: usize, row: &[f32], sums: &mut [f32])
+        requires window { oy < self.now.whole.matrix.rows }
+        requires row { 4 * (self.now.n + (self.now.whole.matrix.columns - 1)) ≤ length row.now }
+        requires sums { 4 * self.now.n ≤ length sums.old }
+        ensures { Added (λ i c. in_order self.now.whole.matrix.columns (shifted_of self.now row.now oy i c)) self.now.n sums.old sums.new }
+    {
+        let across = self.whole.across();
+        let columns = self.whole.matrix.columns as usize;
+        let base = (self.whole.matrix.rows as usize - oy - 1) * columns;
+        for ox in 0..columns {
+            let turned = columns - ox - 1;
+            let k = self.whole.kernel[base + turned];
+            let span = across.span(self.x + ox, self.n);
+            accumulate(
+                k,
+                &row[4 * (span.start + ox)..4 * (span.end + ox)],
+                &mut sums[4 * span.start..4 * span.end],
+            );
+        }
+    }
+
+    // The sums of row y take in row oy of the window.
+    fn add_row(&self, y: usize, oy: usize, work: &mut Work)
+        requires { (y < self.now.whole.height) × (oy < self.now.whole.matrix.rows) }
+        ensures { Added (λ i c. row_sum_of self.now y i c oy) self.now.n work.old.sums work.new.sums }
+    {
+        let down = self.whole.down();
+        if !down.is_read(y + oy) {
+            return;
+        }
+        let line = self.whole.line(down.place(y + oy));
+        let end = self.n + (self.whole.matrix.columns as usize - 1);
+        let Work { sums, row } = work;
+        widen(self.whole.across(), line, self.x, end, row);
+        self.add_columns(oy, row, sums);
+    }
+
+    // The sums of row y take in their windows.
+    pub fn add_rows(&self, y: usize, work: &mut Work)
+        requires { y < self.now.whole.height }
+        ensures { Added (λ i c. in_order self.now.whole.matrix.rows (row_sum_of self.now y i c)) self.now.n work.old.sums work.new.sums }
+    {
+        for oy in 0..self.whole.matrix.rows as usize {
+            self.add_row(y, oy, work);
+        }
     }
 }

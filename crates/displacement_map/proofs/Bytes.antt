@@ -1,15 +1,18 @@
 -- The bytes of a pixel are the definition's: the map's two channels send it to one pixel of the picture.
-use Rattle.std.proofs.Common.{◌≡◌, ℕ, zero, suc, ◌+◌, ◌*◌, ◌/◌, ◌%◌, ◌<◌, List, get_or, pos, sym, ap, ◌∙◌, mod-lt, mod-eq_of_lt, lt_of_mul-lt-mul_right, arith, lit<}
-use lib.Ieee.{Float, nan, binary32, of_int}
-use Rattle.floats.specs.Operators.{◌⊕◌}
+use Rattle.std.proofs.Common.{◌≡◌, ℕ, zero, suc, ◌+◌, ◌*◌, ◌/◌, ◌%◌, ◌<◌, List, get_or, sym, subst, refl, ap, ℤ, ◌∙◌, mod-lt, mod-eq_of_lt, arith, lit<}
+use lib.Ieee.{Float}
 use Rattle.floats.specs.Round.{round_to}
-use Rattle.sheet.specs.Pixel.{column, row, channel, PixelAt}
+use Rattle.sheet.specs.Pixel.{column, row, byte_at, channel, PixelAt}
+use Rattle.sheet.specs.Tabulate.{tabulate}
 use Rattle.sheet.proofs.Filling.{pixel_channel}
-use Rattle.sheet.proofs.Places.{rows, column_of_place, row_of_place, channel_of_place}
+use Rattle.sheet.proofs.Places.{column_of_place, row_of_place, channel_of_place}
 use Rattle.displacement_map.specs.declared.ColorChannel.{ColorChannel}
 use Rattle.displacement_map.specs.declared.ColorChannel.TheVariants.{R, G, B, A}
-use Rattle.displacement_map.specs.DisplacementMap.{shift, place, target_of, channel_number, map_at, picture_at, displaced_at}
-use Rattle.displacement_map.specs.Inner.Moving.{Shifts, Moved}
+use Rattle.displacement_map.specs.DisplacementMap.{place, target_of, channel_number, map_at, picture_at, displaced}
+use Rattle.displacement_map.specs.declared.axis.Axis.{Axis}
+use Rattle.displacement_map.specs.declared.landing.Picture.{Picture}
+use Rattle.displacement_map.specs.Inner.Moving.{Moved}
+use Rattle.displacement_map.specs.Inner.Rows.{target_along, moved_at}
 
 pub number_few : (selector : ColorChannel) → channel_number selector < 4
 number_few R = lit< tt
@@ -17,7 +20,7 @@ number_few G = lit< tt
 number_few B = lit< tt
 number_few A = lit< tt
 
-channel_few : (c p : ℕ) → channel c p < 256
+pub channel_few : (c p : ℕ) → channel c p < 256
 channel_few zero p = mod-lt p (lit< tt)
 channel_few (suc zero) p = mod-lt (p / 256) (lit< tt)
 channel_few (suc (suc zero)) p = mod-lt (p / 65536) (lit< tt)
@@ -32,32 +35,35 @@ module _ (selector : ColorChannel) (map : List ℕ) (k p : ℕ) (q : PixelAt map
       let at : 4 * ((k + c) / 4) + n ≡ k + n = omega arith in
       sym (ap (λ (j : ℕ). get_or map j 0 % 256) at ∙ ap (λ (b : ℕ). b % 256) (sym e) ∙ mod-eq_of_lt (channel_few n p))
 
-  -- the place that the code works out
-  pub sent_to : (s scale : Float) (values : List Float) (i : ℕ) (z : Float) → Shifts s scale values → z ≡ of_int binary32 (pos i) ⊕ get_or values (channel (channel_number selector) p) nan → (c : ℕ) → c < 4 → z ≡ place s scale i (map_at selector map (k + c))
-  unfolding place
-  sent_to s scale values i z all e c h =
-      e ∙ ap (λ (t : Float). of_int binary32 (pos i) ⊕ t) (all (channel (channel_number selector) p) (channel_few (channel_number selector) p))
-      ∙ ap (λ (b : ℕ). of_int binary32 (pos i) ⊕ shift s scale b) (selected_byte c h)
-
 pub byte_few : (selector : ColorChannel) (map : List ℕ) (k : ℕ) → map_at selector map k < 256
 byte_few selector map k = mod-lt (get_or map (4 * (k / 4) + channel_number selector) 0) (lit< tt)
 
--- a pixel that lies before the end of the sheet lies in one of its rows
-pub row_before : (w h x y k : ℕ) → k ≡ 4 * (y * w + x) → k < 4 * w * h → y < h
-row_before w h x y k e l = lt_of_mul-lt-mul_right w (omega (arith, rows w h))
+-- v is the picture's pixel where the map's pixel p sends column x and row y
+module _ (columns rows : Axis) (picture : Picture) (map : List ℕ) (x y p v : ℕ) (X Y : Float) (l : x < picture.width) (q : PixelAt map (4 * (y * picture.width + x)) p)
+    (to_x : X ≡ place columns.s columns.scale x (channel (channel_number columns.selector) p)) (to_y : Y ≡ place rows.s rows.scale y (channel (channel_number rows.selector) p)) (moved : Moved picture.src.now picture.width picture.height X Y v) where
+  abbrev first : ℕ
+  first = 4 * (y * picture.width)
 
--- v is the pixel that is stored at column x and row y
-pub displaced_pixel : (xs ys : ColorChannel) (sx sy scale : Float) (w h : ℕ) (src map : List ℕ) (x y k v : ℕ) (X Y : Float) → x < w → k ≡ 4 * (y * w + x) → Moved src w h X Y v
-    → ((c : ℕ) → c < 4 → X ≡ place sx scale x (map_at xs map (k + c))) → ((c : ℕ) → c < 4 → Y ≡ place sy scale y (map_at ys map (k + c)))
-    → (c : ℕ) → c < 4 → channel c v ≡ displaced_at xs ys sx sy scale w h src map (k + c)
-unfolding target_of
-displaced_pixel xs ys sx sy scale w h src map x y k v X Y l at moved ex ey c few =
-    let i : column w (k + c) ≡ x = ap (λ (n : ℕ). column w (n + c)) at ∙ column_of_place w x y c l few in
-    let j : row w (k + c) ≡ y = ap (λ (n : ℕ). row w (n + c)) at ∙ row_of_place w x y c l few in
-    let d : (k + c) % 4 ≡ c = ap (λ (n : ℕ). (n + c) % 4) at ∙ channel_of_place w x y c l few in
-    moved c few
-    ∙ ap (λ (z : Float). picture_at src w h (round_to 31 z) (round_to 31 Y) c) (ex c few)
-    ∙ ap (λ (z : Float). picture_at src w h (round_to 31 (place sx scale x (map_at xs map (k + c)))) (round_to 31 z) c) (ey c few)
-    ∙ sym (ap (λ (n : ℕ). picture_at src w h (round_to 31 (place sx scale n (map_at xs map (k + c)))) (round_to 31 (place sy scale (row w (k + c)) (map_at ys map (k + c)))) ((k + c) % 4)) i
-    ∙ ap (λ (n : ℕ). picture_at src w h (round_to 31 (place sx scale x (map_at xs map (k + c)))) (round_to 31 (place sy scale n (map_at ys map (k + c)))) ((k + c) % 4)) j
-    ∙ ap (λ (n : ℕ). picture_at src w h (round_to 31 (place sx scale x (map_at xs map (k + c)))) (round_to 31 (place sy scale y (map_at ys map (k + c)))) n) d)
+  along : (axis : Axis) (i i' c : ℕ) (z : Float) → c < 4 → z ≡ place axis.s axis.scale i (channel (channel_number axis.selector) p) → i' ≡ i → round_to 31 z ≡ target_along axis map i' (byte_at picture.width x y c)
+  unfolding target_of
+  along axis i i' c z h e f =
+      ap (round_to 31) (e ∙ ap (place axis.s axis.scale i) (selected_byte axis.selector map (4 * (y * picture.width + x)) p q (omega arith) c h)
+      ∙ ap (λ (n : ℕ). place axis.s axis.scale n (map_at axis.selector map (byte_at picture.width x y c))) (sym f))
+
+  pub pixel_moved : (c : ℕ) → c < 4 → channel c v ≡ moved_at columns rows picture map (first + (4 * x + c))
+  pixel_moved c h =
+      let w = picture.width in
+      let k = byte_at w x y c in
+      let z : k ≡ first + (4 * x + c) = omega arith in
+      rw z at (moved c h
+      ∙ ap (λ (t : ℤ). picture_at picture.src.now w picture.height t (round_to 31 Y) c) (along columns x (column w k) c X h to_x (column_of_place w x y c l h))
+      ∙ ap (λ (t : ℤ). picture_at picture.src.now w picture.height (target_along columns map (column w k) k) t c) (along rows y (row w k) c Y h to_y (row_of_place w x y c l h))
+      ∙ ap (λ (n : ℕ). picture_at picture.src.now w picture.height (target_along columns map (column w k) k) (target_along rows map (row w k) k) n) (sym (channel_of_place w x y c l h)))
+
+-- along axes of one scale
+pub axes_displace : (columns rows : Axis) (w h : ℕ) (src map : List ℕ) → rows.scale ≡ columns.scale
+    → tabulate (4 * w * h) (λ k. picture_at src w h (target_along columns map (column w k) k) (target_along rows map (row w k) k) (k % 4)) ≡ displaced columns.selector rows.selector columns.s rows.s columns.scale w h src map
+unfolding displaced
+axes_displace columns rows w h src map e =
+    let at = λ (scale : Float) (k : ℕ). picture_at src w h (target_along columns map (column w k) k) (target_of rows.s scale (row w k) (map_at rows.selector map k)) (k % 4) in
+    subst (λ (scale : Float). tabulate (4 * w * h) (at rows.scale) ≡ tabulate (4 * w * h) (at scale)) e refl

@@ -14,7 +14,7 @@ use Rattle.floats.proofs.EveryByte.{every, below}
 use Rattle.floats.proofs.RoundingErrors.{AtMost, at_most_more, at_most_own, at_most_value, mul_at_most, add_at_most, within_at_most}
 use Rattle.floats.proofs.RoundedWhole.{signed, rounds_to}
 use Rattle.floats.proofs.SignedSums.{add_signed}
-use Rattle.sheet.specs.declared.Answer.TheVariants.{Done}
+use Rattle.sheet.specs.Answer.{Done}
 use Rattle.sheet.specs.Size.{side_limit}
 use Rattle.sheet.proofs.Answers.{cond_done}
 use Rattle.floats.proofs.Tests.{T_true}

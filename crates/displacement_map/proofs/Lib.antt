@@ -1,6 +1,8 @@
 pub mod Distance
 mod Bytes
-mod OnSheet
+mod FromFn
+pub mod Numbered
+mod Rows
 mod StepCount
 pub mod Reading
 pub mod Unchanged

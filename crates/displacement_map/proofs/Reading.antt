@@ -3,7 +3,7 @@ use Rattle.std.proofs.Common.{◌≡◌, ℕ, ◌+◌, ◌*◌, ◌/◌, ◌%◌
 use lib.Ieee.{Float}
 use Rattle.sheet.specs.Pixel.{column, row, byte_at}
 use Rattle.sheet.specs.Size.{Sized}
-use Rattle.sheet.specs.declared.Answer.TheVariants.{Done}
+use Rattle.sheet.specs.Answer.{Done}
 use Rattle.sheet.proofs.Places.{place_inside, column_inside, row_inside, byte_place}
 use Rattle.sheet.proofs.Tabulated.{length_tabulate, get_d_tabulate}
 use Rattle.displacement_map.specs.declared.ColorChannel.{ColorChannel}

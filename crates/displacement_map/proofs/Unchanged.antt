@@ -4,7 +4,7 @@ use lib.Ieee.{Float, of_bits}
 use Rattle.floats.specs.Constants.{c0}
 use Rattle.sheet.specs.Pixel.{column, row}
 use Rattle.sheet.specs.Size.{Sized}
-use Rattle.sheet.specs.declared.Answer.TheVariants.{Done}
+use Rattle.sheet.specs.Answer.{Done}
 use Rattle.sheet.proofs.Places.{column_inside, row_inside, byte_place}
 use Rattle.sheet.proofs.Tabulated.{tabulated}
 use Rattle.displacement_map.specs.declared.ColorChannel.{ColorChannel}

@@ -1,3 +1,4 @@
 pub mod DisplacementMap
+pub mod Numbered
 pub mod Reads
 pub mod Inner

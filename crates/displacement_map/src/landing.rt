@@ -4,7 +4,7 @@ ghost use Rattle.floats.specs.Round.{round_to};
 ghost use Rattle.sheet.specs.Size.{Sized};
 ghost use Rattle.displacement_map.specs.Inner.Moving.{Small, Steps, Moved};
 
-use sheet::pixel::Pixel;
+use sheet::pixel::{Either, Pixel};
 
 // So many steps make a pixel: a place that is no whole number of steps lies near 0.
 const STEPS: u64 = 33554432;
@@ -20,19 +20,29 @@ fn steps(place: f32) -> u64
     std::num::wrapping_sub_u64(f64::to_bits(raised), 0x4337_ffff_ff00_0001)
 }
 
-// The picture's pixel that a column and a row round to; a clear one off the sheet.
-pub fn moved(src: &[u8], width: usize, height: usize, x: f32, y: f32) -> Pixel
-    requires sized { Sized width height × (length src.now ≡ 4 * width * height) }
-    requires small { Small x × Small y }
-    ensures { Moved src.now width height x y result.0 }
-{
-    let column = steps(x);
-    let row = steps(y);
-    if column < STEPS * (width as u64) - 1 {
-        if row < STEPS * (height as u64) - 1 {
-            let at = 4 * (((row + 1) / STEPS) as usize * width + ((column + 1) / STEPS) as usize);
-            return sheet::pixel::pixel_at(src, at);
+// The picture whose pixels are moved.
+#[derive(Clone, Copy)]
+pub struct Picture<'a> {
+    pub width: usize,
+    pub height: usize,
+    pub src: &'a [u8],
+    pub ghost sized: { Sized width height },
+    pub ghost whole: { length src.now ≡ 4 * width * height },
+}
+
+impl Picture<'_> {
+    // The pixel that a column and a row round to; a clear one off the sheet.
+    pub fn moved(&self, x: f32, y: f32) -> Pixel<Either>
+        requires { Small x × Small y }
+        ensures { Moved self.now.src.now self.now.width self.now.height x y result.number }
+    {
+        let column = steps(x);
+        let row = steps(y);
+        if column < STEPS * (self.width as u64) - 1 && row < STEPS * (self.height as u64) - 1 {
+            let column = ((column + 1) / STEPS) as usize;
+            let row = ((row + 1) / STEPS) as usize;
+            return Pixel::at(self.src, 4 * (row * self.width + column));
         }
+        Pixel::numbered(0)
     }
-    Pixel(0)
 }

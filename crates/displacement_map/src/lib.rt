@@ -1,22 +1,59 @@
 // The displacement map filter, as resvg's displacement_map.rs.
 #![tactic(auto)]
 
+mod axis;
 mod landing;
 mod moving;
 
 ghost use Rattle.std.specs.Prelude.{◌≡◌};
 ghost use Rattle.sheet.specs.Contract.{lent, Filtered};
-ghost use Rattle.displacement_map.specs.DisplacementMap.{in_canvas, in_scale, scales_answer, answer, displaced};
+ghost use Rattle.displacement_map.specs.DisplacementMap.{channel_number, in_canvas, in_scale, scales_answer, answer, displaced};
+ghost use Rattle.displacement_map.specs.Numbered.{channel_by};
 
-use sheet::{Answer, Refusal};
+use axis::Axis;
+use landing::Picture;
+use sheet::Refusal;
 
 // A channel of the map, which moves columns or rows.
-#[derive(Clone, Copy)]
+#[derive(Clone, Copy, Debug, PartialEq, Eq)]
 pub enum ColorChannel {
     R,
     G,
     B,
     A,
+}
+
+// A number that no channel has.
+#[derive(Clone, Copy, Debug, PartialEq, Eq)]
+pub struct UnknownChannel(pub u32);
+
+impl TryFrom<u32> for ColorChannel {
+    type Error = UnknownChannel;
+
+    ghost try_from_gives = { λ number channel. channel ≡ channel_by number };
+
+    fn try_from(number: u32) -> Result<ColorChannel, UnknownChannel> {
+        match number {
+            0 => Ok(ColorChannel::R),
+            1 => Ok(ColorChannel::G),
+            2 => Ok(ColorChannel::B),
+            3 => Ok(ColorChannel::A),
+            _ => Err(UnknownChannel(number)),
+        }
+    }
+}
+
+impl From<ColorChannel> for u32 {
+    ghost from_gives = { λ channel number. number ≡ channel_number channel };
+
+    fn from(channel: ColorChannel) -> u32 {
+        match channel {
+            ColorChannel::R => 0,
+            ColorChannel::G => 1,
+            ColorChannel::B => 2,
+            ColorChannel::A => 3,
+        }
+    }
 }
 
 // The largest canvas scale along a side.
@@ -38,28 +75,17 @@ fn in_scale(scale: f32) -> bool
 }
 
 // Tests 4 and 5.
-pub fn test(sx: f32, sy: f32, scale: f32) -> Answer
+#[tactic(auto, unfolding(crate::specs::DisplacementMap::scales_answer))]
+pub fn test(sx: f32, sy: f32, scale: f32) -> Result<(), Refusal>
     ensures { result ≡ scales_answer sx sy scale }
 {
-    if !floats::is_finite(sx) {
-        return Answer::Refused(Refusal::NotFinite, 0);
+    if !floats::is_finite(sx) || !floats::is_finite(sy) || !floats::is_finite(scale) {
+        return Err(Refusal::NotFinite);
     }
-    if !floats::is_finite(sy) {
-        return Answer::Refused(Refusal::NotFinite, 0);
+    if !in_canvas(sx) || !in_canvas(sy) || !in_scale(scale) {
+        return Err(Refusal::Range);
     }
-    if !floats::is_finite(scale) {
-        return Answer::Refused(Refusal::NotFinite, 0);
-    }
-    if !in_canvas(sx) {
-        return Answer::Refused(Refusal::Range, 0);
-    }
-    if !in_canvas(sy) {
-        return Answer::Refused(Refusal::Range, 0);
-    }
-    if !in_scale(scale) {
-        return Answer::Refused(Refusal::Range, 0);
-    }
-    Answer::Done
+    Ok(())
 }
 
 // Applies a displacement map.
@@ -77,16 +103,14 @@ pub fn apply(
     src: &[u8],
     map: &[u8],
     dest: &mut [u8],
-) -> Answer
+) -> Result<(), Refusal>
     ensures { Filtered (answer sx sy scale width height src.now map.now dest.old) result (displaced x_channel y_channel sx sy scale width height src.now map.now) (lent dest.old dest.new) }
 {
-    let sheets = sheet::test3(width, height, src.len(), map.len(), dest.len());
-    let tested = sheet::and_then(sheets, test(sx, sy, scale));
-    let Answer::Done = tested else {
-        return tested;
-    };
-    moving::displace(
-        x_channel, y_channel, sx, sy, scale, width, height, src, map, dest,
-    );
-    Answer::Done
+    sheet::test(width, height, &[src.len(), map.len(), dest.len()])?;
+    test(sx, sy, scale)?;
+    let picture = Picture { width, height, src };
+    let columns = Axis::of(x_channel, sx, scale);
+    let rows = Axis::of(y_channel, sy, scale);
+    moving::displace(&columns, &rows, &picture, map, dest);
+    Ok(())
 }

@@ -1,31 +1,33 @@
 -- What a run that passed its tests tells: sheets of one length, a count within the limit, and steps that read what is there.
 use Prim.Native.Nat.{ℕ, zero, suc, ◌≤◌, ◌<◌}
-use mathlib.Core.Path.{◌≡◌, refl, sym, ◌∙◌}
+use mathlib.Core.Path.{◌≡◌, refl, sym, ap, ◌∙◌}
 use mathlib.Core.Bool.{Bool, true, false, cond, false≢true}
 use mathlib.Core.List.{List}
 use mathlib.Core.Logic.{inl, inr}
 use native.Mathlib.Nat.{not-suc-le-zero, le_of_suc-le-suc}
 use native.Mathlib.Decide.{dec_le}
 use native.Mathlib.Omega.{arith}
-use borrow.Author.Tests.{eqb-false, ltb-false, ne_eqb}
+use borrow.Author.Tests.{eqb-false, ltb-false, ne_eqb, lt-ltb, le-ltb}
 use lib.Dec.{eqb, ltb}
+use lib.ListN.{length}
+use Rattle.std.proofs.lemmas.List.{get_or-set_same, get_or-set_other}
+use Rattle.std.specs.Prelude.{None, Err}
 use lib.Ieee.{Float}
-use Rattle.sheet.specs.declared.Answer.TheVariants.{Done}
+use Rattle.sheet.specs.Answer.{Done}
 use Rattle.sheet.specs.Size.{sheets_answer}
-use Rattle.sheet.proofs.Answers.{cond_true, cond_done, cond_passed, both_done, sheets_first}
+use Rattle.sheet.proofs.Answers.{cond_true, cond_done, both_done, sheets_first}
 use Rattle.recipe.specs.declared.Kind.{Kind}
 use Rattle.recipe.specs.declared.Inputs.{Inputs}
-use Rattle.recipe.specs.declared.Inputs.TheVariants.{None, One, Two}
+use Rattle.recipe.specs.declared.Inputs.TheVariants as inputs
 use Rattle.recipe.specs.declared.Step.{Step}
 use Rattle.recipe.specs.declared.Recipe.{Recipe}
-use Rattle.recipe.specs.declared.contents.Content.{Content}
-use Rattle.recipe.specs.declared.contents.Contents.{Contents}
-use Rattle.recipe.specs.Contents.{is_sheet, content_in, holding, at_first, inputs_of, work_makes, contents}
-use Rattle.recipe.specs.Tests.{work_answer, input_ok, inputs_ok, slots_ok, slot_answer, kind_answer, step_answer, step_of, step_limit, recipe_answer, run_answer}
+use Rattle.recipe.specs.declared.Refused.{Refused}
+use Rattle.recipe.specs.Contents.{Content, Contents, is_sheet, content_in, holding, at_first, inputs_of, work_makes, contents}
+use Rattle.recipe.specs.Tests.{work_answer, input_ok, inputs_ok, slots_ok, slot_answer, kind_answer, step_answer, step_of, step_limit, recipe_answer, RunAnswer, whole, run_answer}
 use Rattle.filter.specs.Slots.{Slots, slots}
 use Rattle.filter.specs.Call.{lengths}
 use Rattle.filter.specs.Inner.Engine.{Fits, IsInput, Legal}
-use Rattle.recipe.proofs.Prefix.{each_done}
+use Rattle.recipe.proofs.Prefix.{step_done, each_done}
 use Rattle.filter.proofs.Acting.{fits_of}
 
 -- ---- what a slot holds
@@ -37,9 +39,7 @@ held_low s x e = go (dec_le s 3)
   where
     go : Dec (s ≤ 3) → s ≤ 3
     go (yes p) = p
-    go (no q) =
-        let z : is_sheet (content_in s x) ≡ false = simp (ne_eqb s 0 (omega arith), ne_eqb s 1 (omega arith), ne_eqb s 2 (omega arith), ne_eqb s 3 (omega arith)) in
-        absurd (false≢true (sym z ∙ e))
+    go (no q) = let z : is_sheet (content_in s x) ≡ false = simp (lt-ltb 3 s (omega arith)) in absurd (false≢true (sym z ∙ e))
 
 -- at first only slot 0 holds a sheet
 pub held_first : (k : Kind) (s : ℕ) → Held s (at_first k) → s ≡ 0
@@ -52,26 +52,17 @@ held_first k (suc s) e = go s e
     go (suc (suc zero)) e = absurd (false≢true e)
     go (suc (suc (suc s))) e = let z = held_low (suc (suc (suc (suc s)))) (at_first k) e in absurd (not-suc-le-zero (le_of_suc-le-suc (le_of_suc-le-suc (le_of_suc-le-suc z))))
 
-pub held_same : (o : ℕ) (new : Content) (x : Contents) → 1 ≤ o → o ≤ 3 → is_sheet new ≡ true → Held o (holding o new x)
-held_same zero new x h l e = absurd (not-suc-le-zero h)
-held_same (suc zero) new x h l e = e
-held_same (suc (suc zero)) new x h l e = e
-held_same (suc (suc (suc zero))) new x h l e = e
-held_same (suc (suc (suc (suc o)))) new x h l e = absurd (not-suc-le-zero (le_of_suc-le-suc (le_of_suc-le-suc (le_of_suc-le-suc l))))
+pub held_same : (o : ℕ) (new : Content) (x : Contents) → length x ≡ 4 → 1 ≤ o → o ≤ 3 → is_sheet new ≡ true → Held o (holding o new x)
+held_same o new x four h l e = rw (ne_eqb o 0 (omega arith), le-ltb 3 o l, get_or-set_same x o new None (omega arith)) e
 
-pub held_other : (s o : ℕ) (new : Content) (x : Contents) → 1 ≤ o → o ≤ 3 → (s ≡ o → ⊥) → Held s (holding o new x) → Held s x
-held_other s zero new x h l n e = absurd (not-suc-le-zero h)
-held_other s (suc zero) new x h l n e = simp (ne_eqb s 1 n) (simp (ne_eqb s 1 n) at e)
-held_other s (suc (suc zero)) new x h l n e = simp (ne_eqb s 2 n) (simp (ne_eqb s 2 n) at e)
-held_other s (suc (suc (suc zero))) new x h l n e = simp (ne_eqb s 3 n) (simp (ne_eqb s 3 n) at e)
-held_other s (suc (suc (suc (suc o)))) new x h l n e = absurd (not-suc-le-zero (le_of_suc-le-suc (le_of_suc-le-suc (le_of_suc-le-suc l))))
+other_content : (s o : ℕ) (new : Content) (x : Contents) → 1 ≤ o → (s ≡ o → ⊥) → content_in s (holding o new x) ≡ content_in s x
+other_content s o new x h n = rw (ne_eqb o 0 (omega arith), get_or-set_other x o s new None n)
 
-pub held_kept : (s o : ℕ) (new : Content) (x : Contents) → 1 ≤ o → o ≤ 3 → (s ≡ o → ⊥) → Held s x → Held s (holding o new x)
-held_kept s zero new x h l n e = absurd (not-suc-le-zero h)
-held_kept s (suc zero) new x h l n e = simp (ne_eqb s 1 n) (simp (ne_eqb s 1 n) at e)
-held_kept s (suc (suc zero)) new x h l n e = simp (ne_eqb s 2 n) (simp (ne_eqb s 2 n) at e)
-held_kept s (suc (suc (suc zero))) new x h l n e = simp (ne_eqb s 3 n) (simp (ne_eqb s 3 n) at e)
-held_kept s (suc (suc (suc (suc o)))) new x h l n e = absurd (not-suc-le-zero (le_of_suc-le-suc (le_of_suc-le-suc (le_of_suc-le-suc l))))
+pub held_other : (s o : ℕ) (new : Content) (x : Contents) → 1 ≤ o → (s ≡ o → ⊥) → Held s (holding o new x) → Held s x
+held_other s o new x h n e = ap is_sheet (sym (other_content s o new x h n)) ∙ e
+
+pub held_kept : (s o : ℕ) (new : Content) (x : Contents) → 1 ≤ o → (s ≡ o → ⊥) → Held s x → Held s (holding o new x)
+held_kept s o new x h n e = ap is_sheet (other_content s o new x h n) ∙ e
 
 -- ---- a step that passed
 both_true : (p q : Bool) → cond p q false ≡ true → (p ≡ true) × (q ≡ true)
@@ -79,10 +70,10 @@ both_true true q e = (refl, e)
 both_true false q e = absurd (false≢true e)
 
 each_input : (i : Inputs) (o : ℕ) (x : Contents) → inputs_ok i o x ≡ true → (a : ℕ) → IsInput i a → input_ok a o x ≡ true
-each_input None o x e a i = absurd i
-each_input (One b) o x e a i = rw i e
-each_input (Two b c) o x e a (inl i) = rw i (both_true (input_ok b o x) _ e).0
-each_input (Two b c) o x e a (inr i) = rw i (both_true (input_ok b o x) _ e).1
+each_input inputs.None o x e a i = absurd i
+each_input (inputs.One b) o x e a i = rw i e
+each_input (inputs.Two b c) o x e a (inl i) = rw i (both_true (input_ok b o x) _ e).0
+each_input (inputs.Two b c) o x e a (inr i) = rw i (both_true (input_ok b o x) _ e).1
 
 input_apart : (a o : ℕ) (x : Contents) → input_ok a o x ≡ true → a ≡ o → ⊥
 unfolding input_ok
@@ -128,18 +119,22 @@ module _ (s : Step) (pool : List Float) (x : Contents) (e : step_answer s pool x
       }
 
 -- ---- a recipe that passed
+not_refused : (t : Bool) (p : RunAnswer) (u : Refused) → cond t (Err u) p ≡ Done → (t ≡ false) × (p ≡ Done)
+not_refused true p u e = cc
+not_refused false p u e = (refl, e)
+
 module _ (r : Recipe) (k : Kind) (pool : List Float) (e : recipe_answer r k pool ≡ Done) where
   pub count_some : 0 < r.count
   unfolding recipe_answer
-  count_some = let z = eqb-false r.count 0 (cond_passed (eqb r.count 0) _ _ e).0 in omega arith
+  count_some = let z = eqb-false r.count 0 (not_refused (eqb r.count 0) _ _ e).0 in omega arith
 
   pub count_few : r.count ≤ step_limit
   unfolding recipe_answer
-  count_few = ltb-false step_limit r.count (cond_passed (ltb step_limit r.count) _ _ (cond_passed (eqb r.count 0) _ _ e).1).0
+  count_few = ltb-false step_limit r.count (not_refused (ltb step_limit r.count) _ _ (not_refused (eqb r.count 0) _ _ e).1).0
 
   pub steps_passed : (i : ℕ) → i < r.count → step_answer (step_of r i) pool (contents (step_of r) (at_first k) i) ≡ Done
   unfolding recipe_answer
-  steps_passed = each_done (step_of r) (at_first k) pool r.count (cond_passed (ltb step_limit r.count) _ _ (cond_passed (eqb r.count 0) _ _ e).1).1
+  steps_passed = each_done (step_of r) (at_first k) pool r.count (not_refused (ltb step_limit r.count) _ _ (not_refused (eqb r.count 0) _ _ e).1).1
 
   pub steps_legal : (i : ℕ) → i < r.count → Legal (step_of r i) pool
   steps_legal i h = legal (step_of r i) pool (contents (step_of r) (at_first k) i) (steps_passed i h)
@@ -148,11 +143,11 @@ module _ (r : Recipe) (k : Kind) (pool : List Float) (e : recipe_answer r k pool
 module _ (r : Recipe) (k : Kind) (pool : List Float) (w h : ℕ) (l : List ℕ) (e : run_answer r k pool w h l ≡ Done) where
   pub sheets_passed : sheets_answer w h l ≡ Done
   unfolding run_answer
-  sheets_passed = (both_done (sheets_answer w h l) _ e).0
+  sheets_passed = step_done 0 (sheets_answer w h l) (both_done (whole (sheets_answer w h l)) _ e).0
 
   pub recipe_passed : recipe_answer r k pool ≡ Done
   unfolding run_answer
-  recipe_passed = (both_done (sheets_answer w h l) _ e).1
+  recipe_passed = (both_done (whole (sheets_answer w h l)) _ e).1
 
 pub slots_fit : (w h : ℕ) (x : Slots) (s : List ℕ) → sheets_answer w h (lengths x s) ≡ Done → Fits w h x s
 slots_fit w h (slots a b c d) s e =

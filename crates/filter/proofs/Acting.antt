@@ -10,9 +10,7 @@ use borrow.Author.Tests.{ne_eqb}
 use lib.ListN.{length}
 use lib.Dec.{eqb}
 use lib.Ieee.{Float}
-use Rattle.sheet.specs.declared.Answer.{Answer}
-use Rattle.sheet.specs.declared.Answer.TheVariants.{Done}
-use Rattle.sheet.specs.Answer.{and_then}
+use Rattle.sheet.specs.Answer.{Answer, Done, and_then}
 use Rattle.sheet.specs.Size.{sheets_answer}
 use Rattle.sheet.specs.Tabulate.{copied}
 use Rattle.sheet.proofs.Answers.{sheets_first, sheets_add}

@@ -10,8 +10,7 @@ use borrow.Author.Tests.{eqb-true, eqb-false}
 use lib.ListN.{length, get_or}
 use lib.Dec.{eqb}
 use lib.Ieee.{Float}
-use Rattle.sheet.specs.declared.Answer.TheVariants.{Done}
-use Rattle.sheet.specs.Answer.{on_done}
+use Rattle.sheet.specs.Answer.{Done, on_done}
 use Rattle.sheet.specs.Contract.{was}
 use Rattle.sheet.specs.Tabulate.{zeros}
 use Rattle.sheet.proofs.Answers.{stays, sheets_sized}
@@ -19,14 +18,14 @@ use Rattle.sheet.proofs.Contracts.{holds_new}
 use Rattle.recipe.specs.declared.Kind.{Kind}
 use Rattle.recipe.specs.declared.Recipe.{Recipe}
 use Rattle.recipe.specs.declared.Step.{Step}
-use Rattle.recipe.specs.declared.contents.Contents.{Contents}
-use Rattle.recipe.specs.Contents.{at_first, contents}
+use Rattle.recipe.specs.Contents.{Contents, at_first, contents}
 use Rattle.recipe.specs.Tests.{step_answer, step_of, run_answer}
 use Rattle.filter.specs.Slots.{Slots, slot_of, made, acts}
 use Rattle.filter.specs.Call.{Call, slots_were, slots_became, lengths, answer, all_steps}
 use Rattle.filter.specs.Reach.{step_reads, Reach, Reaching}
 use Rattle.filter.specs.Demands.{AnyInputGetsAnAnswer, EveryOutputByteIsTheDefinitions, SameRequest, AByteDrawsOnItsReach, OneOutcome, OneYesOrNo}
 use Rattle.filter.specs.Inner.Engine.{Legal}
+use Rattle.recipe.proofs.Prefix.{contents_length}
 use Rattle.filter.proofs.Works.{reads_cover}
 use Rattle.filter.proofs.Accepted.{Held, held_same, held_kept, makes_sheet, legal, steps_passed, steps_legal, sheets_passed, recipe_passed, slots_fit}
 use Rattle.filter.proofs.Isolation.{slot_written, slot_kept, isolated}
@@ -87,12 +86,12 @@ written_held pool f k (suc n) good s i l e = go (λ q. written_held pool f k n (
     G = legal (f n) pool C (good n (le_refl _))
 
     go : (i < n → Held s C) → (t : Bool) → eqb s (f n).output ≡ t → Held s (contents f (at_first k) (suc n))
-    go ih true z = rw (eqb-true s (f n).output z) (held_same (f n).output _ C G.first G.last (makes_sheet (f n) pool C (good n (le_refl _))))
+    go ih true z = rw (eqb-true s (f n).output z) (held_same (f n).output _ C (contents_length f k n) G.first G.last (makes_sheet (f n) pool C (good n (le_refl _))))
     go ih false z =
         let apart = eqb-false s (f n).output z in
         ⊎_elim
         (λ q. absurd (apart (sym (rw q at e))))
-        (λ q. held_kept s (f n).output _ C G.first G.last apart (ih q))
+        (λ q. held_kept s (f n).output _ C G.first apart (ih q))
         (eq-or-lt_of_le (le_of_suc-le-suc l))
 
 -- two runs of one recipe: x and y are their slots
@@ -149,4 +148,4 @@ both_ways false false f g = refl
 
 pub one_yes_or_no : OneYesOrNo
 one_yes_or_no c c' r r' x y q =
-    (x.answered ∙ (same_answer q ∙ sym y.answered), both_ways r.yes r'.yes (λ t. y.always (same_way q (x.only t))) (λ t. x.always (same_way (turned q) (y.only t))))
+    (x.answered ∙ (same_answer q ∙ sym y.answered), both_ways _ _ (λ t. y.always (same_way q (x.only t))) (λ t. x.always (same_way (turned q) (y.only t))))

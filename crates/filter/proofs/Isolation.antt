@@ -1,5 +1,6 @@
 -- A byte of a slot depends on no source byte but those that it reaches, and on nothing that the working slots held:
 -- by induction on the steps, where each step hands the question to the bytes that it reads.
+use Rattle.sheet.specs.Answer.{Done}
 use Prim.Native.Nat.{ℕ, zero, suc, ◌*◌, ◌≤◌, ◌<◌}
 use mathlib.Core.Path.{◌≡◌, refl, sym, ap, ◌∙◌}
 use mathlib.Core.Bool.{Bool, true, false}
@@ -9,11 +10,9 @@ use borrow.Author.Tests.{eqb-true, eqb-false}
 use lib.ListN.{length, get_or}
 use lib.Dec.{eqb}
 use lib.Ieee.{Float}
-use Rattle.sheet.specs.declared.Answer.TheVariants.{Done}
 use Rattle.recipe.specs.declared.Kind.{Kind}
 use Rattle.recipe.specs.declared.Step.{Step}
-use Rattle.recipe.specs.declared.contents.Contents.{Contents}
-use Rattle.recipe.specs.Contents.{at_first, work_makes, contents}
+use Rattle.recipe.specs.Contents.{Contents, at_first, work_makes, contents}
 use Rattle.recipe.specs.Tests.{step_answer}
 use Rattle.filter.specs.Slots.{Slots, slot_of, made, act, acts}
 use Rattle.filter.specs.Reach.{StepReads, Through, Reach}
@@ -80,5 +79,5 @@ module _ (pool : List Float) (w h : ℕ) (R : StepReads) (v : Covers pool w h R)
         go ih false z =
             let e = eqb-false s (f n).output z in
             ap (λ (v : List ℕ). get_or v b 0) (slot_kept pool w h (f n) X G s e)
-            ∙ (ih s b i (held_other s (f n).output (work_makes (f n).work C) C G.first G.last e t) (λ j q. g j (rw z q))
+            ∙ (ih s b i (held_other s (f n).output (work_makes (f n).work C) C G.first e t) (λ j q. g j (rw z q))
             ∙ sym (ap (λ (v : List ℕ). get_or v b 0) (slot_kept pool w h (f n) Y G s e)))

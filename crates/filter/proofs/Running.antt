@@ -1,19 +1,19 @@
 -- The contracts of `run` and of `reaches`: how a refusal and a success show them, and that `reaches` has one outcome.
 use Prim.Native.Nat.{◌*◌, ◌<◌}
 use mathlib.Core.Path.{◌≡◌, sym, ◌∙◌}
-use mathlib.Core.Bool.{Bool, false, false≢true}
+use mathlib.Core.Bool.{Bool, false≢true}
 use native.Mathlib.Nat.{mul-le-mul}
 use native.Mathlib.Omega.{arith}
 use lib.ListN.{length}
-use Rattle.sheet.specs.declared.Answer.{Answer}
-use Rattle.sheet.specs.declared.Answer.TheVariants.{Done}
-use Rattle.sheet.specs.Answer.{IsRefusal}
+use Rattle.std.specs.Prelude.{Result, Ok, Err}
+use Rattle.sheet.specs.Answer.{Done}
 use Rattle.sheet.specs.Contract.{was, became}
 use Rattle.sheet.specs.Size.{Sized}
 use Rattle.sheet.specs.Tabulate.{zeros}
-use Rattle.sheet.proofs.Answers.{stays, sheets_sized}
+use Rattle.sheet.proofs.Answers.{sheets_sized}
 use Rattle.sheet.proofs.Contracts.{holds_refused, holds_done}
-use Rattle.recipe.specs.Tests.{step_of}
+use Rattle.recipe.specs.declared.Refused.{Refused}
+use Rattle.recipe.specs.Tests.{RunAnswer, step_of}
 use Rattle.filter.specs.Call.{Call, slots_were, slots_became, lengths, answer, all_steps, Ran}
 use Rattle.filter.specs.Reach.{step_reads, result, ReachesExactly}
 use Rattle.filter.specs.Inner.Engine.{reaches_at}
@@ -21,9 +21,9 @@ use Rattle.filter.proofs.Works.{Covers, reads_cover}
 use Rattle.filter.proofs.Accepted.{sheets_passed}
 use Rattle.filter.proofs.Reaching.{reaches_some, some_reaches}
 
-module _ {c : Call} {a : Answer} (e : a ≡ answer c) where
-  pub ran_refused : IsRefusal a → slots_became c ≡ slots_were c → became c.scratch ≡ was c.scratch → Ran c a
-  ran_refused h k s = record { answered = e; sheets = rw (← e) (k ∙ sym (stays a h _ _)); cleared = holds_refused e h s }
+module _ {c : Call} {a : RunAnswer} (e : a ≡ answer c) where
+  pub ran_refused : {r : RunAnswer} {u : Refused} → a ≡ Err u → r ≡ Err u → slots_became c ≡ slots_were c → became c.scratch ≡ was c.scratch → Ran c r
+  ran_refused {u = u} h p k s = let f : answer c ≡ Err u = sym e ∙ h in record { answered = p ∙ sym f; sheets = rw f k; cleared = holds_refused f s }
 
   pub ran_done : a ≡ Done → slots_became c ≡ all_steps c → became c.scratch ≡ zeros (length (was c.scratch)) → Ran c Done
   ran_done d k z = let f : answer c ≡ Done = sym e ∙ d in record { answered = sym f; sheets = rw f k; cleared = holds_done f z }
@@ -42,7 +42,7 @@ module _ (c : Call) (d : answer c ≡ Done) where
   call_covered = reads_cover _ _ _ call_sized
 
 -- a yes comes with the first byte's way to the source
-pub reaches_done : {c : Call} {a : Answer} {b : Bool} → a ≡ answer c → a ≡ Done → b ≡ reaches_at (step_of c.recipe) c.recipe.count (result c.recipe) → ReachesExactly c (record { answer = Done; yes = b })
+pub reaches_done : {c : Call} {a : RunAnswer} {b : Bool} → a ≡ answer c → a ≡ Done → b ≡ reaches_at (step_of c.recipe) c.recipe.count (result c.recipe) → ReachesExactly c (Ok b)
 reaches_done {c} {a} {b} f g e =
     let d : answer c ≡ Done = sym f ∙ g in
     let R = step_reads (was c.pool) c.size.width c.size.height in
@@ -58,9 +58,9 @@ reaches_done {c} {a} {b} f g e =
       always = λ t. e ∙ some_reaches _ _ _ R (call_covered c d) (step_of c.recipe) c.recipe.count (result c.recipe) t.byte t.origin t.way;
     }
 
-pub reaches_refused : {c : Call} {a : Answer} → a ≡ answer c → IsRefusal a → ReachesExactly c (record { answer = a; yes = false })
-reaches_refused {c} {a} e f = record {
-  answered = e;
+pub reaches_refused : {c : Call} {a : RunAnswer} {r : Result Bool Refused} {u : Refused} → a ≡ answer c → a ≡ Err u → r ≡ Err u → ReachesExactly c r
+reaches_refused {c} {a} {r} {u} e h p = rw p (record {
+  answered = sym h ∙ e;
   only = λ z. absurd (false≢true z);
-  always = λ t. let p : a ≡ Done = e ∙ t.accepted in absurd (rw p at f);
-}
+  always = λ t. let q : ◌≡◌ {A = RunAnswer} (Err u) Done = sym h ∙ (e ∙ t.accepted) in cc;
+})

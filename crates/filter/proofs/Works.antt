@@ -5,7 +5,7 @@ use mathlib.Core.List.{List}
 use mathlib.Core.Logic.{inl, inr, ⊎_elim}
 use lib.ListN.{length, get_or}
 use lib.Ieee.{Float}
-use Rattle.sheet.specs.declared.Answer.TheVariants.{Done}
+use Rattle.sheet.specs.Answer.{Done}
 use Rattle.sheet.specs.Size.{Sized}
 use Rattle.morphology.specs.Morphology.{morphed}
 use Rattle.morphology.proofs.Reading as morphology

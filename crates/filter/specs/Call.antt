@@ -1,12 +1,11 @@
 -- What a run is lent, as one thing, and what it leaves: the contract of `run`.
 use Rattle.std.specs.Prelude.{◌≡◌, ℕ, List, [], ◌∷◌, length, Float}
-use Rattle.sheet.specs.declared.Answer.{Answer}
 use Rattle.sheet.specs.declared.Size.{Size}
 use Rattle.sheet.specs.Answer.{on_done}
 use Rattle.sheet.specs.Contract.{Lent, was, became, Cleared}
 use Rattle.recipe.specs.declared.Kind.{Kind}
 use Rattle.recipe.specs.declared.Recipe.{Recipe}
-use Rattle.recipe.specs.Tests.{step_of, run_answer}
+use Rattle.recipe.specs.Tests.{RunAnswer, step_of, run_answer}
 use Rattle.filter.specs.Slots.{Slots, slots, acts}
 
 -- a run: what it is asked for, and what it is lent, as it was at the call and as it became
@@ -46,7 +45,7 @@ abbrev pub lengths : Slots → List ℕ → List ℕ
 lengths (slots a b c d) scratch = length a ∷ length b ∷ length c ∷ length d ∷ length scratch ∷ []
 
 -- what a run is answered
-abbrev pub answer : Call → Answer
+abbrev pub answer : Call → RunAnswer
 answer c = run_answer c.recipe c.kind (was c.pool) c.size.width c.size.height (lengths (slots_were c) (was c.scratch))
 
 -- the slots after all steps
@@ -54,7 +53,7 @@ abbrev pub all_steps : Call → Slots
 all_steps c = acts (was c.pool) c.size.width c.size.height (step_of c.recipe) c.recipe.count (slots_were c)
 
 -- the contract of `run`: its answer; the slots after all steps, or, where it is refused, as they were; and the scratch
-pub record Ran (c : Call) (a : Answer) : Type 0 where
+pub record Ran (c : Call) (a : RunAnswer) : Type 0 where
   pub answered : a ≡ answer c
   pub sheets : slots_became c ≡ on_done (answer c) (all_steps c) (slots_were c)
   pub cleared : Cleared 0 (answer c) c.scratch

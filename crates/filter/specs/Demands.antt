@@ -1,15 +1,13 @@
 -- The three demands on a run, in their own words, as types over the contract `Ran`. proofs/Demands.antt proves each.
-use Rattle.std.specs.Prelude.{ℕ, ◌*◌, ◌≤◌, ◌<◌, ◌≡◌, List, length, get_or}
-use Rattle.sheet.specs.declared.Answer.{Answer}
-use Rattle.sheet.specs.declared.Answer.TheVariants.{Done}
-use Rattle.sheet.specs.Answer.{IsRefusal}
+use Rattle.std.specs.Prelude.{ℕ, ◌*◌, ◌≤◌, ◌<◌, ◌≡◌, Bool, List, length, get_or, Result}
+use Rattle.sheet.specs.Answer.{Done, IsRefusal}
 use Rattle.sheet.specs.Contract.{was, became}
 use Rattle.sheet.specs.Tabulate.{zeros}
-use Rattle.filter.specs.declared.ReachAnswer.{ReachAnswer}
-use Rattle.recipe.specs.Tests.{step_of}
+use Rattle.recipe.specs.declared.Refused.{Refused}
+use Rattle.recipe.specs.Tests.{RunAnswer, step_of}
 use Rattle.filter.specs.Slots.{slot_of, made, acts}
 use Rattle.filter.specs.Call.{Call, slots_were, slots_became, lengths, answer, Ran}
-use Rattle.filter.specs.Reach.{Reached, ReachesExactly}
+use Rattle.filter.specs.Reach.{Reached, answer_of, yes_of, ReachesExactly}
 
 -- ---- 1. Any input gets an answer: the answer of docs/LAW.md's table, and a refusal changes no lent byte
 pub record Unchanged (c : Call) : Type 0 where
@@ -17,7 +15,7 @@ pub record Unchanged (c : Call) : Type 0 where
   pub scratch_kept : became c.scratch ≡ was c.scratch
 
 abbrev pub AnyInputGetsAnAnswer : Type 0
-AnyInputGetsAnAnswer = (c : Call) (a : Answer) → Ran c a → (a ≡ answer c) × (IsRefusal a → Unchanged c)
+AnyInputGetsAnAnswer = (c : Call) (a : RunAnswer) → Ran c a → (a ≡ answer c) × (IsRefusal a → Unchanged c)
 
 -- ---- 2. Every output byte is the definition's
 -- step i is the last of the run's steps that writes slot s
@@ -62,7 +60,7 @@ AgreeOnReach c c' s b = (j : ℕ) → Reached c s b j → get_or (was c.source) 
 
 abbrev pub AByteDrawsOnItsReach : Type 0
 AByteDrawsOnItsReach =
-    (c c' : Call) (a a' : Answer) → Ran c a → Ran c' a' → SameRequest c c'
+    (c c' : Call) (a a' : RunAnswer) → Ran c a → Ran c' a' → SameRequest c c'
     → (a ≡ a')
     × (a ≡ Done → (s b : ℕ) → Written c s → b < 4 * c.size.width * c.size.height → AgreeOnReach c c' s b
     → get_or (slot_of (slots_became c) s) b 0 ≡ get_or (slot_of (slots_became c') s) b 0)
@@ -70,10 +68,10 @@ AByteDrawsOnItsReach =
 -- ---- and `run` has one outcome: two that its contract allows for the same lent contents are equal
 abbrev pub OneOutcome : Type 0
 OneOutcome =
-    (c c' : Call) (a a' : Answer) → Ran c a → Ran c' a' → SameRequest c c' → slots_were c ≡ slots_were c' → was c.scratch ≡ was c'.scratch
+    (c c' : Call) (a a' : RunAnswer) → Ran c a → Ran c' a' → SameRequest c c' → slots_were c ≡ slots_were c' → was c.scratch ≡ was c'.scratch
     → (a ≡ a') × (slots_became c ≡ slots_became c') × (became c.scratch ≡ became c'.scratch)
 
 -- and so has `reaches`
 abbrev pub OneYesOrNo : Type 0
 OneYesOrNo =
-    (c c' : Call) (r r' : ReachAnswer) → ReachesExactly c r → ReachesExactly c' r' → SameRequest c c' → (r.answer ≡ r'.answer) × (r.yes ≡ r'.yes)
+    (c c' : Call) (r r' : Result Bool Refused) → ReachesExactly c r → ReachesExactly c' r' → SameRequest c c' → (answer_of r ≡ answer_of r') × (yes_of r ≡ yes_of r')

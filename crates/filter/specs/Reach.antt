@@ -1,6 +1,6 @@
 -- What a byte of a slot reaches: the source bytes that it depends on, worked out backwards.
-use Rattle.std.specs.Prelude.{ℕ, zero, suc, ◌-◌, ◌*◌, ◌<◌, ◌≡◌, true, cond, List, ◌⊎◌, eqb, Float}
-use Rattle.sheet.specs.declared.Answer.TheVariants.{Done}
+use Rattle.std.specs.Prelude.{ℕ, zero, suc, ◌-◌, ◌*◌, ◌<◌, ◌≡◌, Bool, true, false, cond, List, ◌⊎◌, eqb, Float, Result, Ok, Err}
+use Rattle.sheet.specs.Answer.{Done}
 use Rattle.sheet.specs.Contract.{was}
 use Rattle.morphology.specs.Reads as morphology
 use Rattle.composite.specs.Reads as composite
@@ -14,8 +14,8 @@ use Rattle.recipe.specs.declared.Work.{Work}
 use Rattle.recipe.specs.declared.Work.TheVariants.{Morphology, Arithmetic, ColorMatrix, ComponentTransfer, ConvolveMatrix, DisplacementMap, Turbulence, DiffuseLighting, SpecularLighting}
 use Rattle.recipe.specs.declared.Step.{Step}
 use Rattle.recipe.specs.declared.Recipe.{Recipe}
-use Rattle.filter.specs.declared.ReachAnswer.{ReachAnswer}
-use Rattle.recipe.specs.Tests.{step_of}
+use Rattle.recipe.specs.declared.Refused.{Refused}
+use Rattle.recipe.specs.Tests.{RunAnswer, step_of}
 use Rattle.filter.specs.Call.{Call, answer}
 
 -- byte k of what is worked out reads byte j of slot s; one more primitive adds a line
@@ -65,8 +65,17 @@ pub record Reaching (c : Call) : Type 0 where
   pub origin : ℕ
   pub way : Reached c (result c.recipe) byte origin
 
+-- what `reaches` answers: a run's own answer, and on Done the yes or no; after a refusal it is no
+abbrev pub answer_of : Result Bool Refused → RunAnswer
+answer_of (Ok b) = Done
+answer_of (Err r) = Err r
+
+abbrev pub yes_of : Result Bool Refused → Bool
+yes_of (Ok b) = b
+yes_of (Err r) = false
+
 -- the contract of `reaches`: refused as a run is, and yes exactly where a byte of the result reaches the source
-pub record ReachesExactly (c : Call) (r : ReachAnswer) : Type 0 where
-  pub answered : r.answer ≡ answer c
-  pub only : r.yes ≡ true → Reaching c
-  pub always : Reaching c → r.yes ≡ true
+pub record ReachesExactly (c : Call) (r : Result Bool Refused) : Type 0 where
+  pub answered : answer_of r ≡ answer c
+  pub only : yes_of r ≡ true → Reaching c
+  pub always : Reaching c → yes_of r ≡ true

@@ -4,21 +4,15 @@ ghost use Rattle.recipe.specs.Tests.{step_of, step_limit};
 ghost use Rattle.filter.specs.Reach as Reach;
 ghost use Rattle.filter.specs.Inner.Engine.{each_once, origins_of, reaches_at};
 
-use recipe::{Inputs, Recipe, inputs_of};
+use recipe::{Inputs, Recipe};
 
 // A slot that is read twice is asked once.
 fn each_once(inputs: Inputs) -> Inputs
     ensures { result ≡ each_once inputs }
 {
     match inputs {
-        Inputs::None => Inputs::None,
-        Inputs::One(a) => Inputs::One(a),
-        Inputs::Two(a, b) => {
-            if a == b {
-                return Inputs::One(a);
-            }
-            Inputs::Two(a, b)
-        }
+        Inputs::Two(a, b) if a == b => Inputs::One(a),
+        _ => inputs,
     }
 }
 
@@ -28,12 +22,10 @@ fn origins(recipe: Recipe, i: usize, slot: u32) -> Inputs
     ensures { result ≡ origins_of (step_of recipe i) slot }
 {
     let step = recipe.steps[i];
-    let output = step.output;
-    if slot != output {
+    if slot != step.output {
         return Inputs::One(slot);
     }
-    let work = step.work;
-    each_once(inputs_of(work))
+    each_once(step.work.inputs())
 }
 
 // Whether slot `slot` after the first `n` steps reaches the source.
@@ -45,16 +37,10 @@ fn slot_reaches(recipe: Recipe, n: usize, slot: u32) -> bool
         return slot == 0;
     }
     let before = n - 1;
-    let inputs = origins(recipe, before, slot);
-    match inputs {
+    match origins(recipe, before, slot) {
         Inputs::None => false,
         Inputs::One(a) => slot_reaches(recipe, before, a),
-        Inputs::Two(a, b) => {
-            if slot_reaches(recipe, before, a) {
-                return true;
-            }
-            slot_reaches(recipe, before, b)
-        }
+        Inputs::Two(a, b) => slot_reaches(recipe, before, a) || slot_reaches(recipe, before, b),
     }
 }
 
@@ -64,9 +50,6 @@ pub fn result_reaches(recipe: Recipe) -> bool
     requires count_le_step_limit { recipe.count ≤ step_limit }
     ensures { result ≡ reaches_at (step_of recipe) recipe.count (Reach.result recipe) }
 {
-    let count = recipe.count;
-    let last = count - 1;
-    let step = recipe.steps[last];
-    let output = step.output;
-    slot_reaches(recipe, count, output)
+    let last = recipe.steps[recipe.count - 1];
+    slot_reaches(recipe, recipe.count, last.output)
 }

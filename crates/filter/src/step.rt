@@ -1,14 +1,13 @@
 // What a step does: its work, read from the picked slots, is written to its output slot.
 ghost use Rattle.std.specs.Prelude.{◌≡◌, [], ◌∷◌, ℕ, ◌*◌, ◌≤◌, ◌<◌, length};
-ghost use Rattle.sheet.specs.declared.Answer.TheVariants.{Done};
+ghost use Rattle.sheet.specs.Answer.{Done};
 ghost use Rattle.sheet.specs.Size.{sheets_answer};
-ghost use Rattle.sheet.specs.Contract.{read_only};
 ghost use Rattle.sheet.specs.Tabulate.{zeros};
 ghost use Rattle.morphology.specs.Morphology.{radii_answer, morphed};
 ghost use Rattle.composite.specs.Composite.{factors_answer, composed};
 ghost use Rattle.composite.specs.Arithmetic.{factors};
 ghost use Rattle.color_matrix.specs.ColorMatrix.{matrix_answer, recoloured};
-ghost use Rattle.component_transfer.specs.ComponentTransfer.{channels_answer, transferred, byte_of};
+ghost use Rattle.component_transfer.specs.ComponentTransfer.{channels_answer, transfer, transferred};
 ghost use Rattle.convolve_matrix.specs.ConvolveMatrix.{kernel_answer, convolved};
 ghost use Rattle.displacement_map.specs.DisplacementMap.{scales_answer, displaced};
 ghost use Rattle.turbulence.specs.Turbulence.{turbulence_answer, drawn};
@@ -16,10 +15,10 @@ ghost use Rattle.lighting.specs.Lighting.{diffuse_answer, specular_answer, lit, 
 ghost use Rattle.recipe.specs.Tests.{work_answer, step_of, step_limit};
 ghost use Rattle.filter.specs.Slots.{slots, slot_of, made, act, acts};
 ghost use Rattle.recipe.specs.Contents.{inputs_of};
-ghost use Rattle.filter.specs.Inner.Engine.{Fits, IsInput, MadeOf, Legal};
+ghost use Rattle.filter.specs.Inner.Engine.{slots_in, Fits, IsInput, MadeOf, Legal};
 
 use color_matrix::ColorMatrix;
-use component_transfer::TransferFunction;
+use component_transfer::{Channel, TransferFunction};
 use convolve_matrix::ConvolveMatrix;
 use displacement_map::ColorChannel;
 use lighting::{Color, LightSource};
@@ -28,23 +27,31 @@ use recipe::{Inputs, Recipe, Step, Work};
 use sheet::Size;
 use turbulence::Turbulence;
 
-// The sheet in a slot; a slot outside 0..=3 has no bytes.
-fn pick<'a>(slot: u32, a: &'a [u8], b: &'a [u8], c: &'a [u8], d: &'a [u8]) -> &'a [u8]
-    ensures { result.now ≡ slot_of (slots a.now b.now c.now d.now) slot }
-{
-    if slot == 0 {
-        a
-    } else if slot == 1 {
-        b
-    } else if slot == 2 {
-        c
-    } else if slot == 3 {
-        d
-    } else {
-        &a[0..0]
+// The sheets in the slots 0 to 3, lent for reading.
+#[derive(Clone, Copy)]
+struct Sheets<'a> {
+    zero: &'a [u8],
+    one: &'a [u8],
+    two: &'a [u8],
+    three: &'a [u8],
+}
+
+impl<'a> Sheets<'a> {
+    // The sheet in a slot; a slot outside 0..=3 has no bytes.
+    fn of(self, slot: u32) -> &'a [u8]
+        ensures { result.now ≡ slot_of (slots_in self.entry) slot }
+    {
+        match slot {
+            0 => self.zero,
+            1 => self.one,
+            2 => self.two,
+            3 => self.three,
+            _ => &[],
+        }
     }
 }
 
+// Each of the functions `.._into` is called where its filter's tests have passed, and drops the answer.
 fn morphology_into(
     operator: MorphologyOperator,
     rx: f32,
@@ -59,7 +66,7 @@ fn morphology_into(
     ensures { out.new ≡ morphed operator rx ry size.width size.height src.now }
 {
     sheet::copy(src, out);
-    morphology::apply(operator, rx, ry, size.width, size.height, out, scratch);
+    let _ = morphology::apply(operator, rx, ry, size.width, size.height, out, scratch);
 }
 
 fn arithmetic_into(
@@ -76,7 +83,7 @@ fn arithmetic_into(
     requires k4_value { factors_answer k1 k2 k3 k4 ≡ Done }
     ensures { out.new ≡ composed (factors k1 k2 k3 k4) src1.now src2.now }
 {
-    composite::arithmetic(k1, k2, k3, k4, size.width, size.height, src1, src2, out);
+    let _ = composite::arithmetic(k1, k2, k3, k4, size.width, size.height, src1, src2, out);
 }
 
 fn matrix_into(matrix: ColorMatrix, pool: &[f32], size: Size, src: &[u8], out: &mut [u8])
@@ -85,7 +92,7 @@ fn matrix_into(matrix: ColorMatrix, pool: &[f32], size: Size, src: &[u8], out: &
     ensures { out.new ≡ recoloured matrix pool.now src.now }
 {
     sheet::copy(src, out);
-    color_matrix::apply(matrix, pool, size.width, size.height, out);
+    let _ = color_matrix::apply(matrix, pool, size.width, size.height, out);
 }
 
 fn transfer_into(
@@ -100,18 +107,14 @@ fn transfer_into(
 )
     requires out_value { sheets_answer size.width size.height (length src.now ∷ length out.old ∷ []) ≡ Done }
     requires pool_value { channels_answer r g b a pool.now ≡ Done }
-    ensures { out.new ≡ transferred (byte_of r (read_only pool.now)) (byte_of g (read_only pool.now)) (byte_of b (read_only pool.now)) (byte_of a (read_only pool.now)) src.now }
+    ensures { out.new ≡ transferred (transfer r pool.now) (transfer g pool.now) (transfer b pool.now) (transfer a pool.now) src.now }
 {
     sheet::copy(src, out);
-    component_transfer::apply(
-        r,
-        pool,
-        g,
-        pool,
-        b,
-        pool,
-        a,
-        pool,
+    let _ = component_transfer::apply(
+        Channel { function: r, pool },
+        Channel { function: g, pool },
+        Channel { function: b, pool },
+        Channel { function: a, pool },
         size.width,
         size.height,
         out,
@@ -131,7 +134,7 @@ fn convolve_into(
     ensures { out.new ≡ convolved matrix pool.now size.width size.height src.now }
 {
     sheet::copy(src, out);
-    convolve_matrix::apply(matrix, pool, size.width, size.height, out, scratch);
+    let _ = convolve_matrix::apply(matrix, pool, size.width, size.height, out, scratch);
 }
 
 fn displacement_into(
@@ -149,7 +152,7 @@ fn displacement_into(
     requires scale_value { scales_answer sx sy scale ≡ Done }
     ensures { out.new ≡ displaced x_channel y_channel sx sy scale size.width size.height src.now map.now }
 {
-    displacement_map::apply(
+    let _ = displacement_map::apply(
         x_channel,
         y_channel,
         sx,
@@ -168,7 +171,7 @@ fn turbulence_into(t: Turbulence, size: Size, out: &mut [u8])
     requires t_value { turbulence_answer t ≡ Done }
     ensures { out.new ≡ drawn t size.width size.height }
 {
-    turbulence::apply(t, size.width, size.height, out);
+    let _ = turbulence::apply(t, size.width, size.height, out);
 }
 
 fn diffuse_into(
@@ -184,7 +187,7 @@ fn diffuse_into(
     requires constant_value { diffuse_answer light scale constant ≡ Done }
     ensures { out.new ≡ lit (diffuse light scale constant color) size.width size.height src.now }
 {
-    lighting::diffuse_lighting(
+    let _ = lighting::diffuse_lighting(
         light,
         scale,
         constant,
@@ -210,7 +213,7 @@ fn specular_into(
     requires exponent_value { specular_answer light scale constant exponent ≡ Done }
     ensures { out.new ≡ lit (specular light scale constant color) size.width size.height src.now }
 {
-    lighting::specular_lighting(
+    let _ = lighting::specular_lighting(
         light,
         scale,
         constant,
@@ -262,40 +265,34 @@ fn work_on(
     }
 }
 
-// Writes to `out` what the work makes of the slots a, b, c and d.
-fn work_into<'a>(
+// Writes to `out` what the work makes of the sheets in the slots.
+fn work_into(
     work: Work,
     pool: &[f32],
     size: Size,
-    a: &'a [u8],
-    b: &'a [u8],
-    c: &'a [u8],
-    d: &'a [u8],
+    sheets: Sheets,
     out: &mut [u8],
     scratch: &mut [u8],
 )
-    requires fits { Fits size.width size.height (slots a.now b.now c.now d.now) scratch.old }
+    requires fits { Fits size.width size.height (slots_in sheets) scratch.old }
     requires out_len { length out.old ≡ 4 * size.width * size.height }
     requires pool_value { work_answer work pool.now ≡ Done }
     requires by_index { (s : ℕ) → IsInput (inputs_of work) s → s ≤ 3 }
-    ensures { out.new ≡ made work pool.now size.width size.height (slot_of (slots a.now b.now c.now d.now)) }
+    ensures { out.new ≡ made work pool.now size.width size.height (slot_of (slots_in sheets.entry)) }
 {
-    let inputs = recipe::inputs_of(work);
-    match inputs {
-        Inputs::None => work_on(work, pool, size, a, a, out, scratch),
+    match work.inputs() {
+        Inputs::None => work_on(work, pool, size, sheets.zero, sheets.zero, out, scratch),
         Inputs::One(s) => {
-            let src = pick(s, a, b, c, d);
+            let src = sheets.of(s);
             work_on(work, pool, size, src, src, out, scratch)
         }
-        Inputs::Two(s, t) => {
-            let src1 = pick(s, a, b, c, d);
-            let src2 = pick(t, a, b, c, d);
-            work_on(work, pool, size, src1, src2, out, scratch)
-        }
+        Inputs::Two(s, t) => { work_on(work, pool, size, sheets.of(s), sheets.of(t), out, scratch) }
     }
 }
 
 // In the output's place the source is lent again: no input is the output.
+//
+// The slots are parameters of their own: as fields behind one reference, read and written in one call, they have no proof.
 fn do_step(
     step: Step,
     pool: &[f32],
@@ -310,14 +307,35 @@ fn do_step(
     requires legal { Legal step pool.now }
     ensures { slots s0.now s1.new s2.new s3.new ≡ act pool.now size.width size.height step (slots s0.now s1.old s2.old s3.old) }
 {
-    let out = step.output;
     let work = step.work;
-    if out == 1 {
-        work_into(work, pool, size, s0, s0, &s2[..], &s3[..], s1, scratch);
-    } else if out == 2 {
-        work_into(work, pool, size, s0, &s1[..], s0, &s3[..], s2, scratch);
-    } else {
-        work_into(work, pool, size, s0, &s1[..], &s2[..], s0, s3, scratch);
+    match step.output {
+        1 => {
+            let sheets = Sheets {
+                zero: s0,
+                one: s0,
+                two: &s2[..],
+                three: &s3[..],
+            };
+            work_into(work, pool, size, sheets, s1, scratch)
+        }
+        2 => {
+            let sheets = Sheets {
+                zero: s0,
+                one: &s1[..],
+                two: s0,
+                three: &s3[..],
+            };
+            work_into(work, pool, size, sheets, s2, scratch)
+        }
+        _ => {
+            let sheets = Sheets {
+                zero: s0,
+                one: &s1[..],
+                two: &s2[..],
+                three: s0,
+            };
+            work_into(work, pool, size, sheets, s3, scratch)
+        }
     }
 }
 
@@ -338,12 +356,8 @@ pub fn do_steps(
     ensures s3_value { slots s0.now s1.new s2.new s3.new ≡ acts pool.now size.width size.height (step_of recipe) recipe.count (slots s0.now s1.old s2.old s3.old) }
     ensures scratch_value { scratch.new ≡ zeros (length scratch.old) }
 {
-    let count = recipe.count;
-    let mut i = 0;
-    while i < count {
-        let step = recipe.steps[i];
-        do_step(step, pool, size, s0, s1, s2, s3, scratch);
-        i += 1;
+    for i in 0..recipe.count {
+        do_step(recipe.steps[i], pool, size, s0, s1, s2, s3, scratch);
     }
     sheet::clear(scratch);
 }

@@ -4,7 +4,7 @@ use lib.Ieee.{Float, nan, inf, fin, Format, binary64, prec, low, hid, ones, top,
 use lib.Ieee.Bits.{of_bits-to_bits, to_bits-lt, nan_bits_is, nan_bits_above}
 use lib.Ieee.Compare.{differs_from_itself}
 use Rattle.floats.specs.Absolute.{absolute}
-use Rattle.floats.proofs.RootPatterns.{unsigned}
+use Rattle.floats.proofs.Patterns.{unsigned}
 use Rattle.floats.proofs.NarrowedSign.{signed_bits}
 
 -- ---- a value without a sign is its own absolute value, and the sign is cleared

@@ -6,16 +6,23 @@ use lib.Ieee.Order.{drop, kept, round_mono}
 use lib.Ieee.Scale.{round_same, grid, overflow, round_val}
 use Rattle.floats.proofs.Away.{le_cross}
 use Rattle.floats.specs.Channel.{from_normalized}
-use Rattle.floats.specs.Inner.Steps.{plain, up_to, ClampedUnit}
+use Rattle.floats.specs.Inner.Steps.{plain, up_to, clamped}
+use Rattle.floats.specs.Constants.{c255}
 use Rattle.floats.proofs.Tests.{is_false}
 use Rattle.floats.proofs.Fractions.{nought, lt_asym}
 use Rattle.floats.proofs.Magnitudes.{zero_size, zero_neg}
 use Rattle.floats.proofs.Squares.{plain_of}
 use Rattle.floats.proofs.CutToByte.{top}
+use Rattle.floats.proofs.Clamps.{by_clamp}
 
 -- the literal 1.0
 abbrev one : Float
 one = fin false 1 (pos 0)
+
+-- r is from 0 to 1, and 255 times r is cut to the byte of c
+pub record ClampedUnit (c r : Float) : Type 0 where
+  pub inside : T (up_to 1 r)
+  pub same : to_unsigned 8 (mul binary32 r c255) ≡ from_normalized c
 
 -- the byte of 255 times x
 abbrev byte_of : Float → ℕ
@@ -85,14 +92,14 @@ at_zero (inf false) a h = absurd a
 at_zero (fin true m e) a h = byte_same true m e 0 (zero_neg (m * up e) (down e) (nltb→le 0 (m * up e * 1 + 0 * 1 * down e) h) ∙ sym (zero-mul (down e)))
 at_zero (fin false m e) a h = byte_same false m e 0 (zero_size (m * up e) (down e) (nltb→le (0 * 1 * down e) (m * up e * 1) a) ∙ sym (zero-mul (down e)))
 
-pub clamp_mid : (c : Float) → T (lt nought c) → T (lt c one) → ClampedUnit c c
+clamp_mid : (c : Float) → T (lt nought c) → T (lt c one) → ClampedUnit c c
 unfolding of_bits
 clamp_mid c a b = record {
   inside = below_one c a b;
   same = sym (from_bound c ∙ ap (λ (p : Bool). byte_of (cond p one (cond (lt c nought) nought c))) (lt_asym c one b) ∙ ap (λ (q : Bool). byte_of (cond q nought c)) (lt_asym nought c a));
 }
 
-pub clamp_top : (c : Float) → T (lt nought c) → T (not (lt c one)) → ClampedUnit c one
+clamp_top : (c : Float) → T (lt nought c) → T (not (lt c one)) → ClampedUnit c one
 unfolding of_bits
 clamp_top c a b = record {
   inside = tt;
@@ -103,7 +110,7 @@ clamp_top c a b = record {
     go true h = refl
     go false h = h tt
 
-pub clamp_low : (c : Float) → T (not (lt nought c)) → ClampedUnit c nought
+clamp_low : (c : Float) → T (not (lt nought c)) → ClampedUnit c nought
 unfolding of_bits
 clamp_low c a = record {
   inside = tt;
@@ -113,6 +120,10 @@ clamp_low c a = record {
     go : (q : Bool) → (T (not q) → byte_of c ≡ byte_of nought) → byte_of (cond q nought c) ≡ byte_of nought
     go true h = refl
     go false h = h tt
+
+pub clamp_unit : (c : Float) → ClampedUnit c (clamped c (of_bits binary32 0x3f80_0000))
+unfolding of_bits
+clamp_unit c = by_clamp (ClampedUnit c) c one (clamp_mid c) (clamp_top c) (clamp_low c)
 
 -- ---- 255 times a value from 0 to 1
 up_to_lem : (x : Float) → T (plain x) → T (le x top) → T (up_to 255 x)

@@ -1,21 +1,24 @@
 -- A clamped value plus 2 ^ 23 has the nearest whole number in its pattern's low digits, and the cut is that number or one less. Assumes nothing.
-use Rattle.std.proofs.Common.{◌≡◌, ℕ, suc, ◌+◌, ◌-◌, ◌*◌, ◌/◌, ◌%◌, ◌^◌, ◌<◌, ◌≤◌, min, Bool, true, false, not, T, leb, pos, sym, refl, ap, ◌∙◌, subst, zero-lt-suc, div-lt_iff_lt-mul, le-div_iff_mul-le, mul-one, arith, lit<, le→leb, ltb→lt, leb→le, nltb→le, pow_pos}
+use Rattle.std.proofs.Common.{◌≡◌, ℕ, suc, ◌+◌, ◌-◌, ◌*◌, ◌/◌, ◌<◌, ◌≤◌, min, true, false, not, T, pos, sym, refl, ◌∙◌, subst, zero-lt-suc, div-lt_iff_lt-mul, le-div_iff_mul-le, mul-one, arith, lit<, le→leb, ltb→lt, leb→le, nltb→le}
 use native.Mathlib.Nat.{div-eq_of_lt, min-eq_left, min-eq_right}
-use lib.Ieee.{Float, nan, inf, fin, binary32, up, down, odd, lt, fits, is_nan, of_bits, to_bits, of_fields, to_unsigned}
+use lib.Ieee.{Float, nan, inf, fin, binary32, up, down, lt, fits, is_nan, of_bits, to_bits, to_unsigned}
 use lib.Ieee.Fits.{down_pos, add-fits}
-use lib.Ieee.Bits.{of_bits-fits, to_bits-of_bits}
-use lib.Ieee.Exact.{HasValue, odd_sign}
-use lib.Ieee.Back.{whole_unique}
 use lib.Ieee.Positive.{num, den, den_pos}
-use Rattle.floats.specs.Inner.Steps.{up_to, Clamped}
-use Rattle.floats.proofs.Tests.{is_false}
-use Rattle.floats.proofs.Fractions.{nought, revalue, lt_yes, lt_no}
+use Rattle.floats.specs.Inner.Steps.{up_to, clamped}
+use Rattle.floats.proofs.Fractions.{nought, lt_yes, lt_no}
+use Rattle.floats.proofs.Clamps.{by_clamp}
+use Rattle.floats.proofs.Patterns.{valued, whole_bits}
 use Rattle.floats.proofs.NearestWhole as whole
 use Rattle.floats.proofs.NearestWhole.{bounded_value, whole_from}
 
 -- the literal 255.0
 abbrev pub top : Float
 top = fin false 255 (pos 0)
+
+-- r is in a byte's range, and is cut to the byte that x is cut to
+pub record Clamped (x r : Float) : Type 0 where
+  pub inside : T (up_to 255 r)
+  pub same : to_unsigned 8 r ≡ to_unsigned 8 x
 
 -- ---- the clamp
 below : (n d : ℕ) → n * 1 < 255 * 1 * d → n ≤ 255 * d
@@ -32,7 +35,7 @@ clamp_mid (fin false m e) a b = record { inside = le→leb (m * up e) (255 * dow
 over : (n d : ℕ) → 255 * 1 * d ≤ n * 1 → 255 * d ≤ n
 over n d h = omega arith
 
-pub clamp_top : (x : Float) → T (lt nought x) → T (not (lt x top)) → Clamped x top
+clamp_top : (x : Float) → T (lt nought x) → T (not (lt x top)) → Clamped x top
 unfolding lt to_unsigned
 clamp_top nan a b = absurd a
 clamp_top (inf true) a b = absurd a
@@ -49,7 +52,7 @@ nothing n d h k = omega arith
 least : (a : ℕ) → a ≡ 0 → min a 255 ≡ 0
 least a h = omega arith
 
-pub clamp_low : (x : Float) → T (not (lt nought x)) → Clamped x nought
+clamp_low : (x : Float) → T (not (lt nought x)) → Clamped x nought
 unfolding lt to_unsigned
 clamp_low nan a = record { inside = tt; same = refl }
 clamp_low (inf true) a = record { inside = tt; same = refl }
@@ -59,6 +62,10 @@ clamp_low (fin false m e) a = record {
   inside = tt;
   same = sym (least (m * up e / down e) (div-eq_of_lt (nothing (m * up e) (down e) (down_pos e) (nltb→le (0 * 1 * down e) (m * up e * 1) a))));
 }
+
+pub clamp_byte : (x : Float) → Clamped x (clamped x (of_bits binary32 0x437f_0000))
+unfolding of_bits
+clamp_byte x = by_clamp (Clamped x) x top (clamp_mid x) (clamp_top x) (clamp_low x)
 
 under : (n d : ℕ) → 0 < d → n ≤ 255 * d → n < 256 * d
 under n d D h = omega arith
@@ -72,46 +79,6 @@ byte_cut nan h = absurd h
 byte_cut (inf s) h = absurd h
 byte_cut (fin true m e) h = absurd h
 byte_cut (fin false m e) h = min-eq_left (low (m * up e / down e) ((div-lt_iff_lt-mul (down_pos e)).1 (under (m * up e) (down e) (down_pos e) (leb→le (m * up e) (255 * down e) h))))
-
--- ---- 2 ^ 23 + k is the float whose pattern is 0x4b000000 + k
-fields : (k : ℕ) → k < 2 ^ 23 → of_bits binary32 (1258291200 + k) ≡ odd 24 false (2 ^ 23 + k) 149 149
-unfolding of_bits of_fields
-fields k h =
-    ap (λ (b : Bool). of_fields binary32 b ((1258291200 + k) % 2 ^ 31 / 2 ^ 23) ((1258291200 + k) % 2 ^ 23)) (sign k h)
-    ∙ ap (λ (x : ℕ). of_fields binary32 false x ((1258291200 + k) % 2 ^ 23)) (expo k h)
-    ∙ ap (λ (x : ℕ). of_fields binary32 false 150 x) (frac k h)
-  where
-    far : (k : ℕ) → k < 8388608 → 2147483648 ≤ 1258291200 + k → ⊥
-    far k h l = omega arith
-
-    sign : (k : ℕ) → k < 2 ^ 23 → leb (2 ^ 31) (1258291200 + k) ≡ false
-    sign k h = sym (is_false (leb (2 ^ 31) (1258291200 + k)) (λ t. far k h (leb→le (2 ^ 31) (1258291200 + k) t)))
-
-    expo : (k : ℕ) → k < 8388608 → (1258291200 + k) % 2147483648 / 8388608 ≡ 150
-    expo k h = omega arith
-
-    frac : (k : ℕ) → k < 8388608 → (1258291200 + k) % 8388608 ≡ k
-    frac k h = omega arith
-
-pattern_value : (k : ℕ) → k < 2 ^ 23 → HasValue (of_bits binary32 (1258291200 + k)) false (2 ^ 23 + k) 1
-pattern_value k h =
-    subst (λ (x : Float). HasValue x false (2 ^ 23 + k) 1) (sym (fields k h))
-    (revalue (odd 24 false (2 ^ 23 + k) 149 149) false ((2 ^ 23 + k) * 2 ^ 149) (2 ^ 149) (2 ^ 23 + k) 1 (pow_pos 149) (sym (mul-one ((2 ^ 23 + k) * 2 ^ 149))) (odd_sign 24 false (2 ^ 23 + k) 149 149))
-
-valued : (x : Float) (s : Bool) (a c : ℕ) → HasValue x s a c → T (not (is_nan x))
-unfolding is_nan
-valued nan s a c h = absurd h
-valued (inf t) s a c h = absurd h
-valued (fin t m e) s a c h = tt
-
-bits_of : (x : Float) (k : ℕ) → T (fits binary32 x) → k < 2 ^ 23 → HasValue x false (2 ^ 23 + k) 1 → to_bits binary32 x ≡ 1258291200 + k
-bits_of x k F h v =
-    let b = 1258291200 + k in
-    ap (to_bits binary32) (whole_unique binary32 x (of_bits binary32 b) false (2 ^ 23 + k) F (of_bits-fits binary32 b) v (pattern_value k h))
-    ∙ to_bits-of_bits binary32 b (small k h) (valued (of_bits binary32 b) false (2 ^ 23 + k) 1 (pattern_value k h))
-  where
-    small : (k : ℕ) → k < 8388608 → 1258291200 + k < 4294967296
-    small k h = omega arith
 
 -- ---- the steps of `to_byte`, at a clamped z
 module _ (z : Float) (h : T (up_to 255 z)) where
@@ -137,7 +104,7 @@ module _ (z : Float) (h : T (up_to 255 z)) where
       go k h = omega arith
 
   raised_bits : to_bits binary32 raised ≡ 1258291200 + k
-  raised_bits = bits_of raised k raised_fits few (whole.raised_value binary32 255 (lit< tt) z h)
+  raised_bits = whole_bits binary32 raised k raised_fits few (whole.raised_value binary32 255 (lit< tt) z h)
 
   pub no_nan : T (not (is_nan raised))
   no_nan = valued raised false (8388608 + k) 1 (whole.raised_value binary32 255 (lit< tt) z h)

@@ -7,7 +7,7 @@ use lib.Ieee.Fits.{round_is}
 use lib.Ieee.Bits.{of_bits-to_bits, to_bits-lt, nan_bits_is, nan_bits_above, is_true}
 use lib.Ieee.Order.{drop, kept}
 use Rattle.floats.specs.Narrow.{narrow_to}
-use Rattle.floats.proofs.RootPatterns.{unsigned}
+use Rattle.floats.proofs.Patterns.{unsigned}
 
 neg_neg : (x : Float) → neg (neg x) ≡ x
 unfolding neg

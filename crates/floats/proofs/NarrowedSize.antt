@@ -13,9 +13,9 @@ use lib.Ieee.Order.{drop}
 use lib.Ieee.Scale.{overflow, round_same}
 use Rattle.floats.specs.Narrow.{narrow_to}
 use Rattle.floats.proofs.Fractions.{add_at, round_at}
-use Rattle.floats.proofs.RoundedRoot.{bits_value, units_bits, units_fits}
+use Rattle.floats.proofs.Patterns.{bits_value, units_bits, units_fits}
 use Rattle.floats.proofs.Closest.{Cmp, cmp}
-use Rattle.floats.proofs.RootPatterns.{value_low, value_high}
+use Rattle.floats.proofs.Patterns.{value_low, value_high}
 
 -- ---- `round`, of n / den units with no more digits than the format has
 pub round_low : (f : Format) (s : Bool) (num den : ℕ) → 0 < den → num * 2 ^ low f < 2 ^ prec f * den → round f s num den ≡ units f s (closest (num * 2 ^ low f) den) 0
@@ -222,12 +222,6 @@ module _ (a : ℕ) (lo : 4039728865751334912 ≤ a) (hi : a < 921886843722740531
 
       back : (x : ℕ) → x + 7516192768 - 7516192768 ≡ x
       back x = omega arith
-
-  pub big_some : 7516192768 ≤ (a + 268435455 + a / 536870912 % 2) / 536870912
-  big_some = subst (λ (x : ℕ). 7516192768 ≤ x) (sym shifted) (go (k * 8388608 + kept_here))
-    where
-      go : (x : ℕ) → 7516192768 ≤ x + 7516192768
-      go x = omega arith
 
   pub big_small : a < 5183643171103440896 → (a + 268435455 + a / 536870912 % 2) / 536870912 - 7516192768 ≤ 2139095040
   big_small h = le_trans (le_of_eq (ap (λ (x : ℕ). x - 7516192768) shifted)) (go a kept_here h kept_hi)

@@ -1,10 +1,10 @@
 -- Up to 4 a positive pattern is the number of units that its value has, and past 4 both are past it. Assumes nothing.
-use Rattle.std.proofs.Common.{◌≡◌, ℕ, zero, suc, ◌+◌, ◌-◌, ◌*◌, ◌/◌, ◌^◌, ◌<◌, ◌≤◌, Bool, true, false, cond, not, ◌||◌, T, eqb, ltb, leb, negsuc, sym, refl, ap, ◌∙◌, le_of_eq, lt_of_le_of_lt, mul-div_cancel, arith, eqb→eq, lt→ltb, pow_pos}
+use Rattle.std.proofs.Common.{◌≡◌, ℕ, zero, suc, ◌+◌, ◌-◌, ◌*◌, ◌/◌, ◌^◌, ◌<◌, ◌≤◌, Bool, true, false, cond, ◌||◌, T, eqb, ltb, leb, negsuc, sym, refl, ap, ◌∙◌, le_of_eq, lt_of_le_of_lt, mul-div_cancel, arith, eqb→eq, lt→ltb, pow_pos}
 use lib.Ieee.{Float, nan, inf, fin, binary32, up, down, size, eq, lt, le, fits, of_bits, to_bits}
 use lib.Ieee.Digits.{size-le}
 use lib.Ieee.Fits.{down_pos, and_l}
 use borrow.Author.Tests.{lt-leb}
-use Rattle.floats.specs.Order.{near_zero}
+use Rattle.floats.specs.Order.{near_zero, within}
 use Rattle.floats.proofs.Units.{Finite, in_units_lem, pattern_at}
 use Rattle.floats.proofs.SumTests.{le_same}
 use Rattle.floats.proofs.Fractions.{nought}
@@ -79,21 +79,12 @@ at_zero (fin false m e) h = or_true (ltb (m * up e * 2 ^ 147) (1 * 1 * down e)) 
     some : (d : ℕ) → 0 < d → 0 < 1 * 1 * d
     some d h = omega arith
 
-pub from_zero : (x : Float) → T (fits binary32 x) → T (le nought x) → le x four ≡ near_zero x
+pub near_zero_is : (x : Float) → T (fits binary32 x) → within nought x four ≡ near_zero x
 unfolding near_zero of_bits le
-from_zero x F h = go (eq nought x) (lt nought x) (at_zero x) (positive x F) h
+near_zero_is x F = go (eq nought x) (lt nought x) (at_zero x) (positive x F)
   where
-    go : (p q : Bool) → (T p → true ≡ le x four) → (T q → le x four ≡ leb (to_bits binary32 x) 4) → T (q || p) → le x four ≡ cond p true (cond q (leb (to_bits binary32 x) 4) false)
-    go true q a b t = sym (a tt)
-    go false true a b t = b tt
-    go false false a b t = absurd t
-
-pub not_from_zero : (x : Float) → T (not (le nought x)) → false ≡ near_zero x
-unfolding near_zero of_bits le
-not_from_zero x h = go (eq nought x) (lt nought x) h
-  where
-    go : (p q : Bool) → T (not (q || p)) → false ≡ cond p true (cond q (leb (to_bits binary32 x) 4) false)
-    go true true t = absurd t
-    go true false t = absurd t
-    go false true t = absurd t
-    go false false t = refl
+    go : (p q : Bool) → (T p → true ≡ le x four) → (T q → le x four ≡ leb (to_bits binary32 x) 4) → cond (q || p) (le x four) false ≡ cond p true (cond q (leb (to_bits binary32 x) 4) false)
+    go true true a b = sym (a tt)
+    go true false a b = sym (a tt)
+    go false true a b = b tt
+    go false false a b = refl

@@ -1,13 +1,15 @@
 // A float cut to a byte.
 ghost use Rattle.std.specs.Prelude.{◌≡◌, T};
 ghost use Rattle.std.specs.Float.Ieee as Ieee;
-ghost use Rattle.floats.specs.Inner.Steps.{up_to, Clamped};
+ghost use Rattle.floats.specs.Inner.Steps.{up_to};
+
+use crate::order::clamp;
 
 // Rust's `x as u8`: toward zero, 0 for a NaN and below 0, 255 from 255 on.
 pub fn to_byte(x: f32) -> u8
     ensures { result ≡ Ieee.to_unsigned 8 x }
 {
-    cut(clamp_byte(x))
+    cut(clamp(x, 255.0))
 }
 
 // `z as u8` of a z from 0 to 255.
@@ -20,15 +22,4 @@ pub fn cut(z: f32) -> u8
     let n: u32 = f32::to_bits(t) - 0x4b00_0000;
     let v: u32 = if t - 8388608.0 > z { n - 1 } else { n };
     v as u8
-}
-
-// x brought to 0 to 255; a NaN gives 0.
-fn clamp_byte(x: f32) -> f32
-    ensures { Clamped x result }
-{
-    if x > 0.0 {
-        if x < 255.0 { x } else { 255.0 }
-    } else {
-        0.0
-    }
 }

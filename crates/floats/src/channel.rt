@@ -4,9 +4,9 @@ ghost use Rattle.std.specs.Float.Ieee as Ieee;
 ghost use Rattle.std.specs.Float.{binary32};
 ghost use Rattle.floats.specs.Channel as Channel;
 ghost use Rattle.floats.specs.Constants.{c255};
-ghost use Rattle.floats.specs.Inner.Steps.{ClampedUnit};
 
 use crate::byte::{cut, to_byte};
+use crate::order::clamp;
 
 // resvg's `c as f32 / 255.0`, with no division.
 pub fn normalized(c: u8) -> f32
@@ -21,19 +21,7 @@ pub fn normalized(c: u8) -> f32
 pub fn from_normalized(c: f32) -> u8
     ensures { result ≡ Channel.from_normalized c }
 {
-    let u: f32 = clamp_unit(c);
-    cut(u * 255.0)
-}
-
-// c brought to 0 to 1; a NaN gives 0.
-fn clamp_unit(c: f32) -> f32
-    ensures { ClampedUnit c result }
-{
-    if c > 0.0 {
-        if c < 1.0 { c } else { 1.0 }
-    } else {
-        0.0
-    }
+    cut(clamp(c, 1.0) * 255.0)
 }
 
 // Rust's `(c * 255.0) as u8`.

@@ -4,7 +4,7 @@ ghost use Rattle.std.specs.Prelude.{◌≡◌, ◌+◌, ◌^◌, ◌≤◌, T, n
 ghost use Rattle.std.specs.Float.{binary64};
 ghost use Rattle.std.specs.Float.Ieee.Scale.{finite};
 ghost use Rattle.floats.specs.Unit.{in_units, squared, about_one, unit_pair, unit_triple};
-ghost use Rattle.floats.specs.Inner.Steps.{plain, FewDigits, ExactSquare};
+ghost use Rattle.floats.specs.Inner.Steps.{plain, Falling, FewDigits, ExactSquare};
 
 use crate::order::is_finite;
 
@@ -38,24 +38,19 @@ fn finite_triple(x: f32, y: f32, z: f32) -> bool
     requires z_finite { T (finite z) }
     ensures { result ≡ about_one (2 ^ 288) (squared x + squared y + squared z) }
 {
-    let a: f64 = square(x);
-    let b: f64 = square(y);
-    let c: f64 = square(z);
-    if b <= a {
-        if c <= b {
-            about_one(a, b, c)
-        } else if c <= a {
-            about_one(a, c, b)
-        } else {
-            about_one(c, a, b)
-        }
-    } else if c <= a {
-        about_one(b, a, c)
-    } else if c <= b {
-        about_one(b, c, a)
-    } else {
-        about_one(c, b, a)
-    }
+    let (hi, lo) = falling(square(x), square(y));
+    let (hi, mid) = falling(hi, square(z));
+    let (mid, lo) = falling(mid, lo);
+    about_one(hi, mid, lo)
+}
+
+// The two, the larger first.
+fn falling(a: f64, b: f64) -> (f64, f64)
+    requires a_few { FewDigits a }
+    requires b_few { FewDigits b }
+    ensures { Falling a b result.0 result.1 }
+{
+    if b <= a { (a, b) } else { (b, a) }
 }
 
 // x * x, exactly.
@@ -101,7 +96,7 @@ fn sum_at_most(mid: f64, lo: f64, most: f64) -> bool
     requires falling { in_units binary64 lo ≤ in_units binary64 mid }
     ensures { result ≡ nat_le (in_units binary64 mid + in_units binary64 lo) (in_units binary64 most) }
 {
-    if mid <= most { lo <= most - mid } else { false }
+    mid <= most && lo <= most - mid
 }
 
 // Whether mid + lo >= least, exactly, for a lo that is no more than mid, and a mid of 2 at most.

@@ -1,8 +1,5 @@
-mod Cases
-mod StripRows
 mod Passes
 mod LitRows
-mod Lengths
 mod Halves
 pub mod Reading
 pub mod WithinAlpha

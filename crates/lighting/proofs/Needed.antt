@@ -29,15 +29,14 @@ use Rattle.floats.specs.Unit.{unit_triple}
 use Rattle.floats.proofs.EveryByte.{every, below}
 use Rattle.floats.proofs.Fractions.{sub_at}
 use Rattle.floats.proofs.Tests.{is_true}
-use Rattle.sheet.specs.declared.Answer.{Answer}
-use Rattle.sheet.specs.declared.Answer.TheVariants.{Done}
+use Rattle.sheet.specs.Answer.{Answer, Done}
 use Rattle.sheet.specs.Pixel.{column, row, byte_at}
 use Rattle.sheet.specs.Size.{side_limit}
 use Rattle.sheet.proofs.Places.{place_inside, column_inside, row_inside, column_of_place, row_of_place}
 use Rattle.sheet.proofs.Apart.{Bytes, Apart, Needed, all_but, length_all_but, at_but, not_at_but, all_same, bytes_inside}
 use Rattle.surface.specs.declared.Normal.{Normal}
 use Rattle.surface.specs.Surface.{alpha_at, ahead, behind, lean, at_edge, lean_factor, normal_at}
-use Rattle.surface.specs.Inner.Lines.{factor_of}
+use Rattle.surface.specs.Inner.Leans.{factor_of}
 use Rattle.surface.proofs.Rules.{normal}
 use Rattle.surface.proofs.Tilts.{weighted_none, tilt, Tilted, tilted}
 use Rattle.lighting.specs.declared.light.LightSource.{LightSource}

@@ -7,71 +7,26 @@ mod pixel;
 mod rows;
 mod vector;
 
-ghost use Rattle.std.specs.Prelude.{◌≡◌, cond, false};
-ghost use Rattle.std.specs.Float.Ieee.Scale.{finite};
+ghost use Rattle.std.specs.Prelude.{◌≡◌};
 ghost use Rattle.floats.specs.Order.{within};
 ghost use Rattle.sheet.specs.Contract.{lent, Filtered};
-ghost use Rattle.lighting.specs.Lighting.{all3, finite_light, in_reach, m256, c256, light_in_range, finite_numbers, numbers_in_range, tested};
+ghost use Rattle.lighting.specs.Lighting.{m256, c256, finite_numbers, numbers_in_range, tested};
 ghost use Rattle.lighting.specs.Lighting.{diffuse_answer, specular_answer, answer, lit, diffuse, specular};
 
 pub use light::LightSource;
 use light::Reflection;
 pub use pixel::Color;
 use pixel::Lighting;
-use sheet::{Answer, Refusal};
+use sheet::Refusal;
 
-// The largest size of a place, and of the surface's scale and a lighting constant.
-const PLACE_LIMIT: f32 = 65536.0;
-
+// The largest size of the surface's scale and of a lighting constant.
 const SCALE_LIMIT: f32 = 256.0;
 
-// Both, made into one answer.
-fn both(a: bool, b: bool) -> bool
-    ensures { result ≡ cond a b false }
-{
-    if a { b } else { false }
-}
-
-fn all_finite(x: f32, y: f32, z: f32) -> bool
-    ensures { result ≡ all3 finite x y z }
-{
-    both(
-        floats::is_finite(x),
-        both(floats::is_finite(y), floats::is_finite(z)),
-    )
-}
-
-fn finite_light(light: LightSource) -> bool
-    ensures { result ≡ finite_light light }
-{
-    match light {
-        LightSource::Distant(x, y, z) => all_finite(x, y, z),
-        LightSource::Point(x, y, z) => all_finite(x, y, z),
-    }
-}
-
-fn is_place(x: f32) -> bool
-    ensures { result ≡ in_reach x }
-{
-    floats::within(-PLACE_LIMIT, x, PLACE_LIMIT)
-}
-
-fn light_in_range(light: LightSource) -> bool
-    ensures { result ≡ light_in_range light }
-{
-    match light {
-        LightSource::Distant(x, y, z) => floats::unit_triple(x, y, z),
-        LightSource::Point(x, y, z) => both(is_place(x), both(is_place(y), is_place(z))),
-    }
-}
-
+#[tactic(auto, unfolding(crate::specs::Lighting::finite_numbers))]
 fn finite_numbers(light: LightSource, scale: f32, constant: f32) -> bool
     ensures { result ≡ finite_numbers light scale constant }
 {
-    both(
-        finite_light(light),
-        both(floats::is_finite(scale), floats::is_finite(constant)),
-    )
+    light.is_finite() && floats::is_finite(scale) && floats::is_finite(constant)
 }
 
 fn is_scale(x: f32) -> bool
@@ -80,30 +35,29 @@ fn is_scale(x: f32) -> bool
     floats::within(-SCALE_LIMIT, x, SCALE_LIMIT)
 }
 
+#[tactic(auto, unfolding(crate::specs::Lighting::numbers_in_range))]
 fn numbers_in_range(light: LightSource, scale: f32, constant: f32) -> bool
     ensures { result ≡ numbers_in_range light scale constant }
 {
-    both(
-        light_in_range(light),
-        both(is_scale(scale), floats::within(0.0, constant, SCALE_LIMIT)),
-    )
+    light.is_in_range() && is_scale(scale) && floats::within(0.0, constant, SCALE_LIMIT)
 }
 
 // Test 4, then 5.
-fn of_tests(finites: bool, in_ranges: bool) -> Answer
+fn of_tests(finites: bool, in_ranges: bool) -> Result<(), Refusal>
     ensures { result ≡ tested finites in_ranges }
 {
-    if finites {
-        if in_ranges {
-            return Answer::Done;
-        }
-        return Answer::Refused(Refusal::Range, 0);
+    if !finites {
+        return Err(Refusal::NotFinite);
     }
-    Answer::Refused(Refusal::NotFinite, 0)
+    if !in_ranges {
+        return Err(Refusal::Range);
+    }
+    Ok(())
 }
 
 // Tests 4 and 5 of a diffuse lighting.
-pub fn test_diffuse(light: LightSource, scale: f32, constant: f32) -> Answer
+#[tactic(auto, unfolding(crate::specs::Lighting::diffuse_answer))]
+pub fn test_diffuse(light: LightSource, scale: f32, constant: f32) -> Result<(), Refusal>
     ensures { result ≡ diffuse_answer light scale constant }
 {
     of_tests(
@@ -113,18 +67,18 @@ pub fn test_diffuse(light: LightSource, scale: f32, constant: f32) -> Answer
 }
 
 // Tests 4 and 5 of a specular lighting, whose exponent can only be 1.
-pub fn test_specular(light: LightSource, scale: f32, constant: f32, exponent: f32) -> Answer
+#[tactic(auto, unfolding(crate::specs::Lighting::specular_answer))]
+pub fn test_specular(
+    light: LightSource,
+    scale: f32,
+    constant: f32,
+    exponent: f32,
+) -> Result<(), Refusal>
     ensures { result ≡ specular_answer light scale constant exponent }
 {
     of_tests(
-        both(
-            finite_numbers(light, scale, constant),
-            floats::is_finite(exponent),
-        ),
-        both(
-            numbers_in_range(light, scale, constant),
-            floats::within(1.0, exponent, 1.0),
-        ),
+        finite_numbers(light, scale, constant) && floats::is_finite(exponent),
+        numbers_in_range(light, scale, constant) && floats::within(1.0, exponent, 1.0),
     )
 }
 
@@ -141,7 +95,7 @@ pub fn diffuse_lighting(
     height: usize,
     src: &[u8],
     dest: &mut [u8],
-) -> Answer
+) -> Result<(), Refusal>
     ensures { Filtered (answer (diffuse_answer light scale constant) width height src.now dest.old) result (lit (diffuse light scale constant color) width height src.now) (lent dest.old dest.new) }
 {
     let tested = test_diffuse(light, scale, constant);
@@ -169,7 +123,7 @@ pub fn specular_lighting(
     height: usize,
     src: &[u8],
     dest: &mut [u8],
-) -> Answer
+) -> Result<(), Refusal>
     ensures { Filtered (answer (specular_answer light scale constant exponent) width height src.now dest.old) result (lit (specular light scale constant color) width height src.now) (lent dest.old dest.new) }
 {
     let tested = test_specular(light, scale, constant, exponent);

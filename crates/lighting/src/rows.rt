@@ -1,301 +1,199 @@
-// One row of a strip, in passes over its columns. Each pass fills the first places of lent work space, one for each column.
-ghost use Rattle.std.specs.Prelude.{◌≡◌, ℕ, ◌*◌, ◌+◌, ◌≤◌, ◌<◌, length, get_or};
+// One row of a strip, in passes over its columns. Each pass fills work space of one place for each column.
+ghost use Rattle.std.specs.Prelude.{◌≡◌, ℕ, ◌≤◌, ◌<◌, length, get_or, Float};
 ghost use Rattle.std.specs.Float.{nan};
-ghost use Rattle.surface.specs.Inner.Lines.{Placed, Columns, normal_in};
-ghost use Rattle.lighting.specs.Vectors as Vectors;
-ghost use Rattle.lighting.specs.Light.{normal_vector};
-ghost use Rattle.lighting.specs.Inner.Rays.{square};
-ghost use Rattle.lighting.specs.Inner.Rows.{Filled, Sloped, start_of, DistantRays, Alongs, factors_by, LitRow, RowDone, from_row, point_vector, vector_to, point_ray, to_point_in};
+ghost use Rattle.sheet.specs.Inner.Strips.{strip_limit};
+ghost use Rattle.surface.specs.Inner.Rows.{normal_in};
+ghost use Rattle.lighting.specs.Inner.Pixels.{along_by, factor_along};
+ghost use Rattle.lighting.specs.Inner.Rays.{square, ray_by};
+ghost use Rattle.lighting.specs.Inner.Rows.{Filled, Measured, Sloped, IsSheetOf, LitRow, RowDone, from_row, point_vector, point_ray, ray_at};
 
+use crate::light;
 use crate::light::{LightSource, Reflection};
 use crate::pixel::Lighting;
 use crate::vector::Vector3;
-use crate::{light, pixel};
-use surface::Strip;
+use sheet::STRIP;
+use surface::{Columns, Row};
 
-// Where a strip's bytes of row y begin.
-fn start_of(strip: Strip, y: usize) -> usize
-    requires { Placed strip × (y < strip.height) }
-    ensures { result ≡ start_of strip y }
-{
-    4 * (y * strip.width + strip.left)
+// A strip's columns, with one more at each side.
+const WIDENED: usize = STRIP + 2;
+
+// Work space for the columns of a row.
+#[derive(Drop)]
+pub struct Work {
+    columns: Columns<WIDENED>,
+    lengths: [f32; STRIP],
+    spans: [f32; STRIP],
+    sizes: [f32; STRIP],
 }
 
-// The normal vectors of row y: their products with themselves.
-fn squares(
-    scale: f32,
-    strip: Strip,
-    sums: &[u16],
-    above: &[u8],
-    below: &[u8],
-    y: usize,
+impl Work {
+    pub fn new() -> Self {
+        Work {
+            columns: Columns::new(),
+            lengths: [0.0; STRIP],
+            spans: [0.0; STRIP],
+            sizes: [0.0; STRIP],
+        }
+    }
+}
+
+// Each number becomes what `f` makes of its place and of itself.
+fn fill<F: Fn(usize, f32) -> f32>(places: &mut [f32], f: F)
+    requires { (i : ℕ) → i < length places.old → F.pre f i (get_or places.old i nan) }
+    ensures { Filled (F.post f) places.old places.new }
+{
+    for (i, place) in places.iter_mut().enumerate() {
+        *place = f(i, *place);
+    }
+}
+
+// Each number becomes the length of the vector of its place.
+fn measure<V: Fn(usize) -> Vector3>(places: &mut [f32], vector: V)
+    requires { (i : ℕ) → i < length places.old → V.pre vector i }
+    ensures { Measured (V.post vector) places.old places.new }
+{
+    fill(
+        places,
+        |i: usize, _: f32| -> f32
+            requires { V.pre vector i }
+            ensures { (v : Vector3) × V.post vector i v × (result ≡ square v) }
+        {
+            let v = vector(i);
+            v.dot(v)
+        },
+    );
+    floats::roots(places, places.len());
+}
+
+// From the surface of a row's column i to a point. A lighting and its row stay two parameters: where they were one struct, and the
+// passes its methods, a row took up to a sixth more time.
+fn from_row(lighting: Lighting, point: Vector3, row: &Row, i: usize) -> Vector3
+    requires { i < row.now.strip.count }
+    ensures { result ≡ from_row point lighting.scale row.now i }
+{
+    let alpha = row.alpha(row.strip.left + i, row.y);
+    light::to_point(point, lighting.scale, alpha, row.column(i), row.y as u16)
+}
+
+// The vector of the ray from a row's column i to a point, where the distances are given.
+fn point_vector(lighting: Lighting, point: Vector3, row: &Row, spans: &[f32], i: usize) -> Vector3
+    requires { (i < row.now.strip.count) × (i < length spans.now) }
+    ensures { result ≡ point_vector lighting point row.now spans.now i }
+{
+    let v = from_row(lighting, point, row, i);
+    lighting.reflection.ray_vector(v.unit(spans[i]))
+}
+
+// How the surface leans along a row: its columns, and the lengths of its normal vectors.
+fn slopes(lighting: Lighting, row: &Row, columns: &mut Columns<WIDENED>, lengths: &mut [f32])
+    requires narrow { row.now.strip.count ≤ strip_limit }
+    requires room { length lengths.old ≡ row.now.strip.count }
+    ensures { Sloped lighting.scale row.now columns.new.sums columns.new.above columns.new.below lengths.new }
+{
+    columns.fill(row);
+    measure(lengths, |i| {
+        lighting.normal_vector(columns.normal_in(row, i))
+    });
+}
+
+// The row's bytes of `dest`, lit by factors.
+fn lit_row(lighting: Lighting, row: &Row, factors: &[f32], dest: &mut [u8])
+    requires { (length factors.now ≡ row.now.strip.count) × IsSheetOf row.now.strip dest.old }
+    ensures { LitRow lighting factors.now row.now dest.old dest.new }
+{
+    let start = 4 * (row.y * row.strip.width + row.strip.left);
+    for (i, factor) in factors.iter().enumerate() {
+        lighting.lit(*factor).put(dest, start + 4 * i);
+    }
+}
+
+// The row's bytes of `dest` become those of the result, by the vectors of its rays and their lengths.
+fn light_along<V: Fn(usize) -> Vector3, S: Fn(usize) -> f32>(
+    lighting: Lighting,
+    row: &Row,
+    columns: &Columns<WIDENED>,
     lengths: &mut [f32],
+    vector: V,
+    size: S,
+    dest: &mut [u8],
 )
-    requires { Placed strip × Columns strip.count sums.now above.now below.now × (y < strip.height) × (strip.count ≤ length lengths.old) }
-    ensures { Filled nan (λ i. square (normal_vector scale (normal_in strip sums.now above.now below.now i y))) strip.count lengths.old lengths.new }
+    requires narrow { row.now.strip.count ≤ strip_limit }
+    requires sloped { Sloped lighting.scale row.now columns.now.sums columns.now.above columns.now.below lengths.old }
+    requires callable { (i : ℕ) → i < row.now.strip.count → V.pre vector i × S.pre size i }
+    requires rays { (i : ℕ) (v : Vector3) (n : Float) → i < row.now.strip.count → V.post vector i v → S.post size i n → ray_by lighting.reflection v n ≡ ray_at lighting row.now i }
+    requires sheet { IsSheetOf row.now.strip dest.old }
+    ensures { RowDone lighting row.now dest.old dest.new }
 {
-    let mut i = 0;
-    while i < strip.count {
-        let normal = surface::normal_in(strip, sums, above, below, i, y);
-        let n = pixel::normal_vector(scale, normal);
-        lengths[i] = n.dot(n);
-        i += 1;
-    }
+    fill(
+        lengths,
+        |i: usize, length: f32| -> f32
+            requires { (i < row.now.strip.count) × (i < strip_limit) × V.pre vector i }
+            ensures { (v : Vector3) × V.post vector i v × (result ≡ along_by lighting.scale (normal_in row.entry.now columns.entry.now.sums columns.entry.now.above columns.entry.now.below i) length v) }
+        { lighting.along(columns.normal_in(row, i), length, vector(i)) },
+    );
+    fill(
+        lengths,
+        |i: usize, along: f32| -> f32
+            requires { S.pre size i }
+            ensures { (n : Float) × S.post size i n × (result ≡ factor_along lighting.reflection lighting.constant along n) }
+        { lighting.light_factor(along, size(i)) },
+    );
+    lit_row(lighting, row, lengths, dest);
 }
 
-// How the surface leans along row y: its columns, and the lengths of its normal vectors.
-fn slopes(
-    scale: f32,
-    strip: Strip,
-    src: &[u8],
-    y: usize,
-    sums: &mut [u16],
-    above: &mut [u8],
-    below: &mut [u8],
-    lengths: &mut [f32],
-)
-    requires placed { Placed strip × (length src.now ≡ 4 * strip.width * strip.height) × (y < strip.height) }
-    requires count_in_bounds { (strip.count + 2 ≤ length sums.old) × (strip.count + 2 ≤ length above.old) × (strip.count + 2 ≤ length below.old) × (strip.count ≤ length lengths.old) }
-    ensures { Sloped scale strip src.now y sums.new above.new below.new lengths.new }
-{
-    surface::columns(src, strip, y, sums, above, below);
-    squares(scale, strip, sums, above, below, y, lengths);
-    floats::roots(lengths, strip.count);
-}
-
-// The vectors from the surface of row y to a point: their products with themselves.
-fn distances(point: Vector3, scale: f32, strip: Strip, src: &[u8], y: usize, spans: &mut [f32])
-    requires { Placed strip × (length src.now ≡ 4 * strip.width * strip.height) × (y < strip.height) × (strip.count ≤ length spans.old) }
-    ensures { Filled nan (λ i. square (from_row point scale strip src.now y i)) strip.count spans.old spans.new }
-{
-    let start = start_of(strip, y);
-    let mut i = 0;
-    while i < strip.count {
-        let alpha = src[start + 4 * i + 3];
-        let v = light::to_point(point, scale, alpha, surface::column(strip, i), y as u16);
-        spans[i] = v.dot(v);
-        i += 1;
-    }
-}
-
-// The half vectors of row y under a point, whose distances are given: their products with themselves.
-fn halves(
-    point: Vector3,
-    scale: f32,
-    strip: Strip,
-    src: &[u8],
-    y: usize,
-    spans: &[f32],
-    sizes: &mut [f32],
-)
-    requires { Placed strip × (length src.now ≡ 4 * strip.width * strip.height) × (y < strip.height) × (strip.count ≤ length spans.now) × (strip.count ≤ length sizes.old) }
-    ensures { Filled nan (λ i. square (point_vector Reflection.Specular point scale strip src.now y spans.now i)) strip.count sizes.old sizes.new }
-{
-    let start = start_of(strip, y);
-    let mut i = 0;
-    while i < strip.count {
-        let alpha = src[start + 4 * i + 3];
-        let v = light::to_point(point, scale, alpha, surface::column(strip, i), y as u16);
-        let half = light::half_vector(v.unit(spans[i]));
-        sizes[i] = half.dot(half);
-        i += 1;
-    }
-}
-
-// The lengths of the half vectors of row y under a point, whose distances are given.
-fn half_lengths(
-    point: Vector3,
-    scale: f32,
-    strip: Strip,
-    src: &[u8],
-    y: usize,
-    spans: &[f32],
-    sizes: &mut [f32],
-)
-    requires { Placed strip × (length src.now ≡ 4 * strip.width * strip.height) × (y < strip.height) × (strip.count ≤ length spans.now) × (strip.count ≤ length sizes.old) }
-    ensures { (i : ℕ) → i < strip.count → get_or sizes.new i nan ≡ Vectors.length (point_vector Reflection.Specular point scale strip src.now y spans.now i) }
-{
-    halves(point, scale, strip, src, y, spans, sizes);
-    floats::roots(sizes, strip.count);
-}
-
-// The distances of row y from a point, and the lengths of its half vectors, which only specular light asks for.
+// The distances of a row from a point, and the lengths of its half vectors, which only specular light asks for.
 fn point_lengths(
     lighting: Lighting,
     point: Vector3,
-    strip: Strip,
-    src: &[u8],
-    y: usize,
+    row: &Row,
     spans: &mut [f32],
     sizes: &mut [f32],
 )
-    requires { Placed strip × (length src.now ≡ 4 * strip.width * strip.height) × (y < strip.height) × (strip.count ≤ length spans.old) × (strip.count ≤ length sizes.old) }
-    ensures { (i : ℕ) → i < strip.count → point_ray lighting point strip src.now y spans.new sizes.new i ≡ to_point_in lighting point strip src.now y i }
+    requires light { lighting.light ≡ LightSource.Point point.x point.y point.z }
+    requires room { (length spans.old ≡ row.now.strip.count) × (length sizes.old ≡ row.now.strip.count) }
+    ensures { (i : ℕ) → i < row.now.strip.count → point_ray lighting point row.now spans.new sizes.new i ≡ ray_at lighting row.now i }
 {
-    let reflection = lighting.reflection;
-    distances(point, lighting.scale, strip, src, y, spans);
-    floats::roots(spans, strip.count);
-    match reflection {
+    measure(spans, |i| from_row(lighting, point, row, i));
+    match lighting.reflection {
         Reflection::Diffuse => (),
-        Reflection::Specular => half_lengths(point, lighting.scale, strip, src, y, spans, sizes),
+        Reflection::Specular => measure(sizes, |i| point_vector(lighting, point, row, spans, i)),
     }
 }
 
-// How far a vector goes along each normal of row y, in the place of the normal's length.
-fn along_vector(
-    scale: f32,
-    vector: Vector3,
-    strip: Strip,
-    sums: &[u16],
-    above: &[u8],
-    below: &[u8],
-    y: usize,
-    lengths: &mut [f32],
-)
-    requires { Placed strip × Columns strip.count sums.now above.now below.now × (y < strip.height) × (strip.count ≤ length lengths.old) }
-    ensures { Alongs scale (λ _. vector) strip sums.now above.now below.now y lengths.old lengths.new }
+// The row's bytes of `dest` become those of the result.
+pub fn light_row(lighting: Lighting, row: &Row, work: &mut Work, dest: &mut [u8])
+    requires narrow { row.now.strip.count ≤ strip_limit }
+    requires sheet { IsSheetOf row.now.strip dest.old }
+    ensures { RowDone lighting row.now dest.old dest.new }
 {
-    let mut i = 0;
-    while i < strip.count {
-        let normal = surface::normal_in(strip, sums, above, below, i, y);
-        lengths[i] = pixel::along(scale, normal, lengths[i], vector);
-        i += 1;
+    let Work {
+        columns,
+        lengths,
+        spans,
+        sizes,
+    } = work;
+    let (lengths, _) = lengths.split_at_mut(row.strip.count);
+    let (spans, _) = spans.split_at_mut(row.strip.count);
+    let (sizes, _) = sizes.split_at_mut(row.strip.count);
+    slopes(lighting, row, columns, lengths);
+    match lighting.light {
+        LightSource::Distant(x, y, z) => {
+            let vector = lighting.reflection.ray_vector(Vector3 { x, y, z });
+            let size = vector.length();
+            light_along(lighting, row, columns, lengths, |_| vector, |_| size, dest);
+        }
+        LightSource::Point(x, y, z) => {
+            let point = Vector3 { x, y, z };
+            point_lengths(lighting, point, row, spans, sizes);
+            light_along(
+                lighting,
+                row,
+                columns,
+                lengths,
+                |i| point_vector(lighting, point, row, spans, i),
+                |i| sizes[i],
+                dest,
+            );
+        }
     }
-}
-
-// Likewise for the vectors of the rays to a point, whose distances are given.
-fn along_each(
-    lighting: Lighting,
-    point: Vector3,
-    strip: Strip,
-    src: &[u8],
-    sums: &[u16],
-    above: &[u8],
-    below: &[u8],
-    spans: &[f32],
-    y: usize,
-    lengths: &mut [f32],
-)
-    requires columns { Columns strip.count sums.now above.now below.now × (strip.count ≤ length spans.now) × (strip.count ≤ length lengths.old) }
-    requires placed { Placed strip × (length src.now ≡ 4 * strip.width * strip.height) × (y < strip.height) }
-    ensures { Alongs lighting.scale (vector_to lighting point strip src.now y spans.now) strip sums.now above.now below.now y lengths.old lengths.new }
-{
-    let reflection = lighting.reflection;
-    let start = start_of(strip, y);
-    let mut i = 0;
-    while i < strip.count {
-        let normal = surface::normal_in(strip, sums, above, below, i, y);
-        let alpha = src[start + 4 * i + 3];
-        let v = light::to_point(
-            point,
-            lighting.scale,
-            alpha,
-            surface::column(strip, i),
-            y as u16,
-        );
-        let vector = light::ray_vector(reflection, v.unit(spans[i]));
-        lengths[i] = pixel::along(lighting.scale, normal, lengths[i], vector);
-        i += 1;
-    }
-}
-
-// The factors of n pixels, in the place of how far their rays go along the normals. The rays' lengths are given.
-fn light_factors(reflection: Reflection, constant: f32, n: usize, sizes: &[f32], alongs: &mut [f32])
-    requires { (n ≤ length sizes.now) × (n ≤ length alongs.old) }
-    ensures { Filled nan (factors_by reflection constant alongs.old sizes.now) n alongs.old alongs.new }
-{
-    let mut i = 0;
-    while i < n {
-        alongs[i] = pixel::light_factor(reflection, constant, alongs[i], sizes[i]);
-        i += 1;
-    }
-}
-
-// Row y of `dest`, lit by factors.
-fn lit_row(lighting: Lighting, strip: Strip, factors: &[f32], y: usize, dest: &mut [u8])
-    requires { Placed strip × (strip.count ≤ length factors.now) × (length dest.old ≡ 4 * strip.width * strip.height) × (y < strip.height) }
-    ensures { LitRow lighting (λ i. get_or factors.now i nan) strip y dest.old dest.new }
-{
-    let reflection = lighting.reflection;
-    let color = lighting.color;
-    let start = start_of(strip, y);
-    let mut i = 0;
-    while i < strip.count {
-        let pixel = pixel::lit(reflection, color.red, color.green, color.blue, factors[i]);
-        sheet::pixel::put_pixel(dest, start + 4 * i, pixel);
-        i += 1;
-    }
-}
-
-// Row y of `dest`, lit by rays that go so far along the normals and have these lengths.
-fn light_row(
-    lighting: Lighting,
-    strip: Strip,
-    sizes: &[f32],
-    y: usize,
-    alongs: &mut [f32],
-    dest: &mut [u8],
-)
-    requires { Placed strip × (strip.count ≤ length sizes.now) × (strip.count ≤ length alongs.old) × (length dest.old ≡ 4 * strip.width * strip.height) × (y < strip.height) }
-    ensures { LitRow lighting (factors_by lighting.reflection lighting.constant alongs.old sizes.now) strip y dest.old dest.new }
-{
-    let reflection = lighting.reflection;
-    light_factors(reflection, lighting.constant, strip.count, sizes, alongs);
-    lit_row(lighting, strip, alongs, y, dest);
-}
-
-// Row y of `dest` becomes that of the result, under a distant light: its ray's vector, and that vector's length in each place of
-// `sizes`. The rest is work space.
-pub fn distant_row(
-    lighting: Lighting,
-    vector: Vector3,
-    sizes: &[f32],
-    strip: Strip,
-    src: &[u8],
-    y: usize,
-    sums: &mut [u16],
-    above: &mut [u8],
-    below: &mut [u8],
-    lengths: &mut [f32],
-    dest: &mut [u8],
-)
-    requires distant_rays { DistantRays lighting vector sizes.now strip.count }
-    requires placed { Placed strip × (length src.now ≡ 4 * strip.width * strip.height) × (length dest.old ≡ 4 * strip.width * strip.height) × (y < strip.height) }
-    requires count_in_bounds { (strip.count + 2 ≤ length sums.old) × (strip.count + 2 ≤ length above.old) × (strip.count + 2 ≤ length below.old) }
-    requires count_in_bounds_2 { (strip.count ≤ length lengths.old) × (strip.count ≤ length sizes.now) }
-    ensures { RowDone lighting strip src.now y dest.old dest.new }
-{
-    let scale = lighting.scale;
-    slopes(scale, strip, src, y, sums, above, below, lengths);
-    along_vector(scale, vector, strip, sums, above, below, y, lengths);
-    light_row(lighting, strip, sizes, y, lengths, dest);
-}
-
-// Row y of `dest` becomes that of the result, under a point. The rest is work space.
-pub fn point_row(
-    lighting: Lighting,
-    point: Vector3,
-    strip: Strip,
-    src: &[u8],
-    y: usize,
-    sums: &mut [u16],
-    above: &mut [u8],
-    below: &mut [u8],
-    lengths: &mut [f32],
-    spans: &mut [f32],
-    sizes: &mut [f32],
-    dest: &mut [u8],
-)
-    requires light_value { lighting.light ≡ LightSource.Point point.x point.y point.z }
-    requires placed { Placed strip × (length src.now ≡ 4 * strip.width * strip.height) × (length dest.old ≡ 4 * strip.width * strip.height) × (y < strip.height) }
-    requires count_in_bounds { (strip.count + 2 ≤ length sums.old) × (strip.count + 2 ≤ length above.old) × (strip.count + 2 ≤ length below.old) }
-    requires count_in_bounds_2 { (strip.count ≤ length lengths.old) × (strip.count ≤ length spans.old) × (strip.count ≤ length sizes.old) }
-    ensures { RowDone lighting strip src.now y dest.old dest.new }
-{
-    slopes(lighting.scale, strip, src, y, sums, above, below, lengths);
-    point_lengths(lighting, point, strip, src, y, spans, sizes);
-    along_each(
-        lighting, point, strip, src, sums, above, below, spans, y, lengths,
-    );
-    light_row(lighting, strip, sizes, y, lengths, dest);
 }

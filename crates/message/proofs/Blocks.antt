@@ -9,10 +9,12 @@ use borrow.Author.Tests.{ne_eqb, lt-ltb, le-ltb}
 use lib.Dec.{eqb, ltb}
 use lib.ListN.{length, take, drop, get_or, set, drop_of_length-le}
 use lib.Seq.{drop-cons, take-suc-set}
-use Rattle.number.specs.Words.{word, stop, words_at, Got, got, wrong, and_then}
-use Rattle.message.specs.declared.Place.TheVariants.{At}
+use Rattle.std.specs.Prelude.{Result, Ok, Err}
+use Rattle.number.specs.declared.Wrong.{Wrong}
+use Rattle.number.specs.declared.reader.Reader.{Reader}
+use Rattle.number.specs.Words.{word, stop, Got, got, wrong, and_then}
 use Rattle.message.proofs.Gathered.{same_got, one_more}
-use Rattle.message.specs.Inner.Reading.{too_large, read_block, firsts, got_at}
+use Rattle.message.specs.Inner.Reading.{words, too_large, read_block, firsts, RowRead}
 
 firsts_from : (l : List ℕ) (k n : ℕ) → k + n ≤ length l → take n (drop k l) ≡ firsts k n l
 unfolding firsts
@@ -36,32 +38,40 @@ pub is_too_large : (m n : ℕ) → m < n → n ≤ 4294967295 → too_large m n 
 is_too_large m n h k = rw (ne_eqb m 4294967295 (λ e. omega arith), lt-ltb m n h)
 
 -- ---- what was read, then the rest of the row
-pub record Going (s row : List ℕ) (wanted : Got (List ℕ)) (words : List ℕ) (place i : ℕ) : Type 0 where
-  pub gives : wanted ≡ and_then (read_block (drop i row) (words_at s place)) (λ l rest. got (take i words ++ l) rest)
+pub record Going (row : List ℕ) (wanted : Got (List ℕ)) (words' : List ℕ) (r : Reader) (i : ℕ) : Type 0 where
+  pub gives : wanted ≡ and_then (read_block (drop i row) (words r)) (λ l rest. got (take i words' ++ l) rest)
 
-module _ {s row : List ℕ} {wanted : Got (List ℕ)} {words : List ℕ} {place i : ℕ} where
-  pub going_first : wanted ≡ read_block row (words_at s place) → i ≡ 0 → Going s row wanted words place i
-  going_first e z = record { gives = rw (z, e) (same_got (read_block row (words_at s place))) }
+module _ {row : List ℕ} {wanted : Got (List ℕ)} {words' : List ℕ} {r : Reader} where
+  pub going_first : wanted ≡ read_block row (words r) → Going row wanted words' r 0
+  going_first e = record { gives = rw e (same_got (read_block row (words r))) }
 
-  module _ (g : Going s row wanted words place i) where
-    pub going_stop : i < length row → words_at s place ≡ stop place → wanted ≡ wrong place
+  module _ {i : ℕ} (g : Going row wanted words' r i) where
+    pub going_stop : i < length row → {w : ℕ} → words r ≡ stop w → wanted ≡ wrong w
     unfolding read_block
     going_stop h e = g.gives ∙ rw (drop-cons row i 0 h, e)
 
-    pub going_done : length row ≤ i → i ≤ length row → length row ≤ length words → wanted ≡ got_at s (firsts 0 (length row) words) (At place)
+    pub going_done : length row ≤ i → i ≤ length row → length row ≤ length words' → wanted ≡ got (firsts 0 (length row) words') (words r)
     unfolding read_block
     going_done h k w =
         let z : i ≡ length row = omega arith in
-        g.gives ∙ rw (drop_of_length-le row h, append-nil (take i words), z, take_firsts words (length row) w)
+        g.gives ∙ rw (drop_of_length-le row h, append-nil (take i words'), z, take_firsts words' (length row) w)
 
-    module _ (h : i < length row) (n next : ℕ) (e : words_at s place ≡ word place n (words_at s next)) where
-      pub going_wrong : get_or row i 0 < n → n ≤ 4294967295 → wanted ≡ wrong place
+    module _ (h : i < length row) {n : ℕ} (m : Reader) (e : words r ≡ word r.at n (words m)) where
+      pub going_wrong : get_or row i 0 < n → n ≤ 4294967295 → wanted ≡ wrong r.at
       unfolding read_block
       going_wrong l k = g.gives ∙ rw (drop-cons row i 0 h, e, is_too_large (get_or row i 0) n l k)
 
-      pub going_next : n ≤ get_or row i 0 → i < length words → Going s row wanted (set words i n) next (i + 1)
+      pub going_next : n ≤ get_or row i 0 → i < length words' → Going row wanted (set words' i n) m (i + 1)
       unfolding read_block
       going_next l k = record {
-        gives = g.gives ∙ rw (drop-cons row i 0 h, e, not_too_large (get_or row i 0) n l, add-one i, take-suc-set words i n k)
-            (one_more (take i words) n (read_block (drop (suc i) row) (words_at s next)));
+        gives = g.gives ∙ rw (drop-cons row i 0 h, e, not_too_large (get_or row i 0) n l, add-one i, take-suc-set words' i n k)
+            (one_more (take i words') n (read_block (drop (suc i) row) (words m)));
       }
+
+-- ---- results
+module _ {most : List ℕ} {r n : Reader} where
+  pub row_well : (l : List ℕ) → read_block most (words r) ≡ got (firsts 0 (length most) l) (words n) → r.at ≤ n.at → RowRead most r n (Ok l)
+  row_well l e h = record { well = λ m f. let z : l ≡ m = cc in rw (← z) (e, h); ill = λ w f. let z : ⊥ = cc in absurd z }
+
+  pub row_ill : {t : Result (List ℕ) Wrong} {w : Wrong} → t ≡ Err w → read_block most (words r) ≡ wrong w.at → RowRead most r n t
+  row_ill {t} {w} e f = rw e (record { well = λ l g. let z : ⊥ = cc in absurd z; ill = λ v g. let z : w ≡ v = cc in rw (← z) f })

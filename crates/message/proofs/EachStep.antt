@@ -25,22 +25,25 @@ use Rattle.recipe.specs.declared.Work.{Work}
 use Rattle.recipe.specs.declared.Work.TheVariants.{Morphology, Arithmetic, ColorMatrix, ComponentTransfer, ConvolveMatrix, DisplacementMap, Turbulence, DiffuseLighting, SpecularLighting}
 use Rattle.recipe.specs.declared.Step.{Step}
 use Rattle.message.specs.Fields.{pooled, pooled_by}
-use Rattle.message.specs.Steps.{range, step, matrix_at, matrix_in, operator_by, operator_code, edge_by, edge_code, channel_by, channel_code, yes_code, transferred, function, colour, function_in, function_of, past, is_code, parts, parts_of, made_of, pooled_of}
+use Rattle.morphology.specs.Numbered.{operator_number}
+use Rattle.convolve_matrix.specs.Numbered.{edge_mode_number}
+use Rattle.displacement_map.specs.DisplacementMap.{channel_number}
+use Rattle.message.specs.Steps.{range, step, matrix_at, matrix_in, operator_by, edge_by, channel_by, yes_code, transferred, function, colour, function_in, function_of, past, is_code, parts, parts_of, made_of, pooled_of}
 use Rattle.message.specs.Answers.{matrix_ranges, function_ranges, ranges_of}
 use Rattle.message.specs.RoundTrip.{counted, relaid_range, relaid_matrix, relaid_function, past_function, relaid_work, relaid, numbers_in}
 use Rattle.message.proofs.Ranges.{InPool, in_first, in_rest, counted_append, numbers_append, range_long, numbers_long}
 
 -- ---- what a code names is what it was made of
-operator_again : (op : MorphologyOperator) → operator_by (operator_code op) ≡ op
+operator_again : (op : MorphologyOperator) → operator_by (operator_number op) ≡ op
 operator_again Dilate = refl
 operator_again Erode = refl
 
-edge_again : (e : EdgeMode) → edge_by (edge_code e) ≡ e
+edge_again : (e : EdgeMode) → edge_by (edge_mode_number e) ≡ e
 edge_again edge.None = refl
 edge_again edge.Duplicate = refl
 edge_again edge.Wrap = refl
 
-channel_again : (c : ColorChannel) → channel_by (channel_code c) ≡ c
+channel_again : (c : ColorChannel) → channel_by (channel_number c) ≡ c
 channel_again R = refl
 channel_again G = refl
 channel_again B = refl

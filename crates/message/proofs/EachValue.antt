@@ -24,7 +24,10 @@ use Rattle.recipe.specs.declared.Work.{Work}
 use Rattle.recipe.specs.declared.Work.TheVariants.{Morphology, Arithmetic, ColorMatrix, ComponentTransfer, ConvolveMatrix, DisplacementMap, Turbulence, DiffuseLighting, SpecularLighting}
 use Rattle.recipe.specs.declared.Step.{Step}
 use Rattle.message.specs.Fields.{up_to, float}
-use Rattle.message.specs.Steps.{matrix_in, operator_code, edge_code, channel_code, yes_code, function, colour, function_in, light_parts, form_of, parts, parts_of}
+use Rattle.morphology.specs.Numbered.{operator_number}
+use Rattle.convolve_matrix.specs.Numbered.{edge_mode_number}
+use Rattle.displacement_map.specs.DisplacementMap.{channel_number}
+use Rattle.message.specs.Steps.{matrix_in, yes_code, function, colour, function_in, light_parts, form_of, parts, parts_of}
 use Rattle.message.specs.RoundTrip.{Says, EachOf, EachMatrix, EachFunction, EachLight, EachWork, EachStep}
 use Rattle.message.proofs.Fields.{EachNumbers, EachField, EachValue}
 use Rattle.message.proofs.Ranges.{range_long}
@@ -42,16 +45,16 @@ module _ {X : Type 0} (P : X → Type 0) where
   each_drop (suc n) (x ∷ l) h = each_drop n l h.1
 
 -- ---- codes are small
-operator_small : (op : MorphologyOperator) → operator_code op < 2
+operator_small : (op : MorphologyOperator) → operator_number op < 2
 operator_small Dilate = omega arith
 operator_small Erode = omega arith
 
-edge_small : (e : EdgeMode) → edge_code e < 3
+edge_small : (e : EdgeMode) → edge_mode_number e < 3
 edge_small edge.None = omega arith
 edge_small edge.Duplicate = omega arith
 edge_small edge.Wrap = omega arith
 
-channel_small : (c : ColorChannel) → channel_code c < 4
+channel_small : (c : ColorChannel) → channel_number c < 4
 channel_small R = omega arith
 channel_small G = omega arith
 channel_small B = omega arith
@@ -89,18 +92,18 @@ module _
   light_each (Point x y z) h = (codes 2 1 (omega arith) (omega arith), (h.0, (h.1, (h.2, tt))))
 
   work_each : (w : Work) (o : ℕ) → P.number o → EachWork P w → EachValue P C (form_of (parts pool w o).code).row (parts pool w o).values
-  work_each (Morphology a op rx ry) o n h = (h.0, (n, (codes 2 (operator_code op) (operator_small op) (omega arith), (h.1, (h.2, tt)))))
+  work_each (Morphology a op rx ry) o n h = (h.0, (n, (codes 2 (operator_number op) (operator_small op) (omega arith), (h.1, (h.2, tt)))))
   work_each (Arithmetic a b k1 k2 k3 k4) o n h = (h.0, (h.1, (n, (h.2, (h.3, (h.4, (h.5, tt)))))))
   work_each (ColorMatrix a m) o n h = (h.0, (n, (matrix_each m h.1, tt)))
   work_each (ComponentTransfer s r g b a) o n h =
       (h.0, (n, (function_each r h.1, (function_each g h.2, (function_each b h.3, (function_each a h.4, tt))))))
   work_each (ConvolveMatrix a m) o n h =
-      let mode = codes 3 (edge_code m.edge_mode) (edge_small m.edge_mode) (omega arith) in
+      let mode = codes 3 (edge_mode_number m.edge_mode) (edge_small m.edge_mode) (omega arith) in
       let preserve = codes 2 (yes_code m.preserve_alpha) (yes_small m.preserve_alpha) (omega arith) in
       (h.0, (n, (h.1, (h.2, (h.3, (h.4, (range_each m.matrix h.5, (h.6, (h.7, (mode, (preserve, tt)))))))))))
   work_each (DisplacementMap a b xs ys sx sy scale) o n h =
-      let x = codes 4 (channel_code xs) (channel_small xs) (omega arith) in
-      let y = codes 4 (channel_code ys) (channel_small ys) (omega arith) in
+      let x = codes 4 (channel_number xs) (channel_small xs) (omega arith) in
+      let y = codes 4 (channel_number ys) (channel_small ys) (omega arith) in
       (h.0, (h.1, (n, (x, (y, (h.2, (h.3, (h.4, tt))))))))
   work_each (Turbulence t) o n h =
       let kind = codes 2 (yes_code t.fractal_noise) (yes_small t.fractal_noise) (omega arith) in

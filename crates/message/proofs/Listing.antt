@@ -1,92 +1,80 @@
 -- A list is read number by number, and each is stored after those before it.
-use Prim.Native.Nat.{ℕ, suc, ◌+◌, ◌-◌, ◌≤◌, ◌<◌, min}
+use Prim.Native.Nat.{ℕ, suc, ◌+◌, ◌-◌, ◌≤◌, ◌<◌}
 use mathlib.Core.Path.{◌≡◌, refl, sym, ◌∙◌}
 use mathlib.Core.List.{List, [], ◌∷◌, ◌++◌, append-nil}
-use native.Mathlib.Nat.{sub-zero}
+use native.Mathlib.Nat.{sub-zero, add-zero}
 use native.Mathlib.Omega.{arith}
 use lib.ListN.{length, set, length-append}
 use lib.Seq.{sets}
 use lib.Ieee.{Float, binary32, of_bits}
-use Rattle.number.specs.Words.{word, stop, words_at, Got, got, and_then}
+use Rattle.number.specs.Words.{word, stop, Got, got, wrong, and_then}
+use Rattle.number.specs.declared.reader.Reader.{Reader}
 use Rattle.number.proofs.Stores.{sets_append}
-use Rattle.pool.specs.declared.Numbers.{Numbers}
-use Rattle.message.specs.declared.Place.{Place}
-use Rattle.message.specs.declared.Place.TheVariants.{At, Wrong}
-use Rattle.message.specs.Fields.{read_floats}
-use Rattle.message.specs.Steps.{range}
-use Rattle.message.specs.Inner.Reading.{Taken}
+use Rattle.message.specs.declared.lists.Pool.{Pool}
+use Rattle.message.specs.Fields.{read_floats, read_numbers}
+use Rattle.message.specs.Inner.Reading.{words, Took}
 use Rattle.message.proofs.Gathered.{same_got, one_more}
 
--- i numbers were read and stored
-pub record Going (s : List ℕ) (wanted : Got (List Float)) (count used : ℕ) (before after : List Float) (place i : ℕ) : Type 0 where
+-- i numbers were taken and stored
+pub record Going (wanted : Got (List Float)) (count : ℕ) (r : Reader) (pool after : Pool) (i : ℕ) : Type 0 where
   pub done : List Float
   pub long : length done ≡ i
-  pub gives : wanted ≡ and_then (read_floats (count - i) (words_at s place)) (λ l rest. got (done ++ l) rest)
-  pub kept : after ≡ sets before used done
+  pub gives : wanted ≡ and_then (read_floats (count - i) (words r)) (λ l rest. got (done ++ l) rest)
+  pub kept : after.numbers.now ≡ sets pool.numbers.now pool.used done
+  pub counted : after.used ≡ pool.used + i
+  pub room : after.used ≤ r.at
 
-module _ {s : List ℕ} {wanted : Got (List Float)} {count used : ℕ} {before after : List Float} {place i : ℕ} where
-  pub going_first : wanted ≡ read_floats count (words_at s place) → before ≡ after → i ≡ 0 → Going s wanted count used before after place i
-  going_first e b z = record {
+module _ {wanted : Got (List Float)} {count : ℕ} {r : Reader} {pool : Pool} where
+  pub going_first : wanted ≡ read_floats count (words r) → pool.used ≤ r.at → Going wanted count r pool pool 0
+  going_first e h = record {
     done = [];
-    long = sym z;
-    gives = rw (z, sub-zero, e) (same_got (read_floats count (words_at s place)));
-    kept = sym b;
+    long = refl;
+    gives = rw (sub-zero, e) (same_got (read_floats count (words r)));
+    kept = refl;
+    counted = sym (add-zero pool.used);
+    room = h;
   }
 
-  module _ (g : Going s wanted count used before after place i) where
+  module _ {after : Pool} {i : ℕ} (g : Going wanted count r pool after i) where
     one_left : i < count → count - i ≡ suc (count - (i + 1))
     one_left h = omega arith
 
-    pub going_stop : i < count → words_at s place ≡ stop place → Taken wanted s used before after (Wrong place) (used + count) (λ v l. v ≡ l)
+    pub going_stop : i < count → {w : ℕ} → words r ≡ stop w → wanted ≡ wrong w
     unfolding read_floats
-    going_stop h e = record {
-      value = [];
-      list = g.done;
-      reading = g.gives ∙ rw (one_left h, e);
-      stored = g.kept;
-      held = tt;
-      room = tt;
-    }
+    going_stop h e = g.gives ∙ rw (one_left h, e)
 
-    pub going_done : count ≤ i → i ≤ count → used + i ≤ place → Taken wanted s used before after (At place) (used + count) (λ v l. v ≡ l)
+    pub going_done : count ≤ i → i ≤ count → Took wanted g.done g.done r pool after
     unfolding read_floats
-    going_done h k r =
+    going_done h k =
         let z : count - i ≡ 0 = omega arith in
-        let l = g.long in
         record {
-          value = g.done;
-          list = g.done;
           reading = g.gives ∙ rw (z, append-nil g.done);
           stored = g.kept;
-          held = (refl, omega arith);
-          room = omega arith;
+          counted = rw g.long g.counted;
+          room = g.room;
         }
 
     pub going_next :
-        i < count → (n next : ℕ) → words_at s place ≡ word place n (words_at s next)
-        → Going s wanted count used before (set after (used + i) (of_bits binary32 n)) next (i + 1)
+        i < count → {n : ℕ} (m : Reader) → words r ≡ word r.at n (words m) → r.at < m.at → {last : Pool}
+        → last.numbers.now ≡ set after.numbers.now after.used (of_bits binary32 n) → last.used ≡ after.used + 1 → Going wanted count m pool last (i + 1)
     unfolding read_floats
-    going_next h n next e = record {
-      done = g.done ++ (of_bits binary32 n ∷ []);
-      long = length-append g.done (of_bits binary32 n ∷ []) ∙ rw g.long;
-      gives = g.gives ∙ rw (one_left h, e) (one_more g.done (of_bits binary32 n) (read_floats (count - (i + 1)) (words_at s next)));
-      kept = rw (g.kept, ← g.long) (sets_append g.done before used (of_bits binary32 n ∷ []));
-    }
+    going_next h {n} m e f {last} s u =
+        let c = g.counted in
+        let o = g.room in
+        record {
+          done = g.done ++ (of_bits binary32 n ∷ []);
+          long = length-append g.done (of_bits binary32 n ∷ []) ∙ rw g.long;
+          gives = g.gives ∙ rw (one_left h, e) (one_more g.done (of_bits binary32 n) (read_floats (count - (i + 1)) (words m)));
+          kept = s ∙ rw (g.kept, c, ← g.long) (sets_append g.done pool.numbers.now pool.used (of_bits binary32 n ∷ []));
+          counted = omega arith;
+          room = omega arith;
+        }
 
 -- ---- a count and so many numbers
-pub range_taken :
-    {wanted : Got (List Float)} {s : List ℕ} {used count start end : ℕ} {before after : List Float} {place : Place}
-    → Taken wanted s used before after place (used + count) (λ v l. v ≡ l) → place ≡ At end → start ≡ min used 4294967295
-    → Taken wanted s used before after (At end) (used + count) (λ v l. (v ≡ l) × (◌≡◌ {A = Numbers} (record { start = start; count = count }) (range used l)))
-range_taken {wanted} {s} {used} {count} {start} {end} {before} {after} {place} t e b =
-    let u : Taken wanted s used before after (At end) (used + count) (λ v l. v ≡ l) = rw e at t in
-    let n = u.held.1 in
-    let k : length u.list ≡ count = omega arith in
-    record {
-      value = u.value;
-      list = u.list;
-      reading = u.reading;
-      stored = u.stored;
-      held = ((u.held.0, rw (k, b)), u.held.1);
-      room = u.room;
-    }
+pub numbers_here : (r m : Reader) {n : ℕ} → words r ≡ word r.at n (words m) → read_numbers (words r) ≡ read_floats n (words m)
+unfolding read_numbers
+numbers_here r m e = rw e
+
+pub no_numbers : (r : Reader) {w : ℕ} → words r ≡ stop w → read_numbers (words r) ≡ wrong w
+unfolding read_numbers
+no_numbers r e = rw e

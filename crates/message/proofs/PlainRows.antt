@@ -7,17 +7,18 @@ use native.Mathlib.Nat.{mod-eq_of_lt}
 use native.Mathlib.Omega.{arith}
 use borrow.Author.Tests.{eqb-true, ltb-false}
 use lib.Dec.{eqb, ltb}
-use lib.ListN.{length, drop, get_or}
+use lib.ListN.{drop, get_or}
 use lib.Ieee.{binary32, binary64, of_bits}
 use Rattle.recipe.specs.declared.Step.{Step}
-use Rattle.number.specs.Words.{Words, word, stop, words_at, Got, got, wrong, and_then}
+use Rattle.number.specs.Words.{Words, word, stop, Got, got, wrong, and_then}
 use Rattle.number.specs.Values.{seed_of}
-use Rattle.message.specs.declared.block.Block.{Block}
+use Rattle.std.specs.Prelude.{Result, Ok, Err}
+use Rattle.number.specs.declared.Wrong.{Wrong}
+use Rattle.number.specs.declared.reader.Reader.{Reader}
 use Rattle.message.specs.Fields.{Field, number, up_to, float, double, seed, numbers, choice, Values, apply, read_field, read, pooled}
-use Rattle.message.specs.Steps.{form_of, read_form, read_of}
-use Rattle.message.specs.Inner.Reading.{read_block, firsts, BlockRead, PlainTaken, low_byte}
+use Rattle.message.specs.Steps.{form_of, read_form}
+use Rattle.message.specs.Inner.Reading.{words, read_block, PlainTaken, low_byte}
 use Rattle.message.proofs.Gathered.{same_got}
-use Rattle.message.proofs.Taking.{block_taken, made_taken}
 
 -- the fields from the first list on
 abbrev pub after : List Field → List Field
@@ -185,12 +186,22 @@ module _ (code : ℕ) (small : bounded (row_of code) ≡ true) (none : Nothing (
       go (got l rest) = rw (nothing_read (after (row_of code)) none rest)
       go (wrong p) = refl
 
-  module _ {s : List ℕ} {at used : ℕ} {r : Block} (b : BlockRead s at (bounds_of (row_of code)) r) (h : used ≤ at) (made : Step) where
-    pub plain_taken :
-        made ≡ apply (row_of code) ((form_of code).made used) (plain_values code none (firsts 0 (length (bounds_of (row_of code))) r.words))
-        → PlainTaken code s at used (record { step = made; used = used; place = r.place })
+  module _ {r n : Reader} where
+    pub plain_well :
+        {h : List ℕ} → (read_block (bounds_of (row_of code)) (words r) ≡ got h (words n)) × (r.at ≤ n.at) → (s : Step)
+        → ((used : ℕ) → s ≡ apply (row_of code) ((form_of code).made used) (plain_values code none h)) → PlainTaken code r n (Ok s)
     unfolding read_form
-    plain_taken e pool =
-        made_taken (block_taken b h) (λ l. read_of used (form_of code) (plain_values code none l))
-        (rw (plain_read (words_at s at)) (twice (plain_values code none) (read_of used (form_of code)) (read_block (bounds_of (row_of code)) (words_at s at))))
-        (λ v l g. (rw (e, g.0), rw (row_pooled (row_of code) v (no_values (after (row_of code)) none), nothing_pooled (after (row_of code)) none, g.1)))
+    plain_well {h} e s f = record {
+      well = λ t g used.
+          let z : s ≡ t = cc in
+          let p = row_pooled (row_of code) h (no_values (after (row_of code)) none) ∙ nothing_pooled (after (row_of code)) none in
+          (rw (plain_read (words r), e.0, p, ← f used, z), e.1);
+      ill = λ w g. let z : ⊥ = cc in absurd z;
+    }
+
+    pub plain_ill : {t : Result Step Wrong} {w : Wrong} → t ≡ Err w → read_block (bounds_of (row_of code)) (words r) ≡ wrong w.at → PlainTaken code r n t
+    unfolding read_form
+    plain_ill {t} {w} e f = rw e (record {
+      well = λ s g. let z : ⊥ = cc in absurd z;
+      ill = λ v g used. let z : w ≡ v = cc in rw (plain_read (words r), f, z);
+    })

@@ -12,11 +12,12 @@ use Rattle.recipe.specs.declared.Recipe.{Recipe}
 use Rattle.number.specs.Number.{number_bytes, Put}
 use Rattle.number.specs.Words.{bytes_of}
 use Rattle.number.proofs.Stores.{sets_append}
-use Rattle.number.proofs.Places.{groups_few, put_length}
+use Rattle.number.proofs.Places.{groups_few}
 use Rattle.message.specs.Fields.{bits, write_numbers}
 use Rattle.message.specs.Steps.{Parts, parts_of, words_of}
 use Rattle.message.specs.Message.{steps_words, message_bytes}
 use Rattle.message.specs.Answers.{message_of}
+use Rattle.message.specs.declared.writer.Writer.{Writer}
 use Rattle.message.specs.Inner.Writing.{Wrote}
 
 pub bytes_append : (a b : List ℕ) → bytes_of (a ++ b) ≡ bytes_of a ++ bytes_of b
@@ -30,35 +31,32 @@ put_then {l} {k} {m} {at} {p} {e} {a} {b} x y = record {
   ends = let u = x.ends in let v = y.ends in rw length-append (omega arith);
 }
 
-module _ {l k : List ℕ} {at p : ℕ} where
-  pub wrote_then : {m n e : ℕ} {a b j : List ℕ} → Wrote m a l at k p → Wrote n b k p j e → Wrote (m + n) (a ++ b) l at j e
-  wrote_then {m} {n} {e} {a} {b} {j} x y = record {
-    put = rw bytes_append (put_then x.put y.put);
-    bounded = let u = x.bounded in let v = y.bounded in omega arith;
+pub put_as : {l k l' k' : List ℕ} {at at' e : ℕ} {a : List ℕ} → Put l at a k e → l ≡ l' → at ≡ at' → k ≡ k' → Put l' at' a k' e
+put_as p e f g = rw (← e, ← f, ← g) p
+
+module _ {b m : Writer} where
+  pub wrote_then : {i j : ℕ} {a : Writer} {x y : List ℕ} → Wrote i x b m → Wrote j y m a → Wrote (i + j) (x ++ y) b a
+  wrote_then {i} {j} {a} {x} {y} f g = record {
+    put = rw bytes_append (put_then f.put g.put);
+    bounded = let u = f.bounded in let v = g.bounded in omega arith;
   }
 
-  pub wrote_as : {m n : ℕ} {a b : List ℕ} → Wrote m a l at k p → a ≡ b → m ≤ n → Wrote n b l at k p
-  wrote_as {m} {n} {a} {b} x e h = record {
-    put = rw (← e) x.put;
-    bounded = let u = x.bounded in omega arith;
+  pub wrote_as : {i j : ℕ} {x y : List ℕ} → Wrote i x b m → x ≡ y → i ≤ j → Wrote j y b m
+  wrote_as {i} {j} {x} {y} f e h = record {
+    put = rw (← e) f.put;
+    bounded = let u = f.bounded in omega arith;
   }
 
-  pub wrote_number : {n : ℕ} → Put l at (number_bytes n) k p → Wrote 5 (n ∷ []) l at k p
+  pub wrote_number : {n : ℕ} → Put b.out.now b.at (number_bytes n) m.out.now m.at → Wrote 5 (n ∷ []) b m
   unfolding bytes_of
   wrote_number {n} x = record {
     put = rw append-nil x;
     bounded = let u = x.ends in let v = groups_few n in omega arith;
   }
 
-  pub wrote : (m : ℕ) {a : List ℕ} → Put l at (bytes_of a) k p → p ≤ at + m → Wrote m a l at k p
-  wrote m x h = record { put = x; bounded = h }
-
-  pub wrote_length : {m : ℕ} {a : List ℕ} → Wrote m a l at k p → length k ≡ length l
-  wrote_length x = put_length x.put
-
-pub wrote_none : (l : List ℕ) (at : ℕ) → Wrote 0 [] l at l at
+pub wrote_none : (b : Writer) → Wrote 0 [] b b
 unfolding bytes_of
-wrote_none l at = record { put = record { stored = refl; ends = omega arith }; bounded = omega arith }
+wrote_none b = record { put = record { stored = refl; ends = omega arith }; bounded = omega arith }
 
 -- ---- one more of a list
 pub take_more : {A : Type 0} (l : List A) (i : ℕ) (d : A) → i < length l → take i l ++ (get_or l i d ∷ []) ≡ take (i + 1) l
@@ -81,6 +79,8 @@ pub steps_more : (f : Step → Parts) (l : List Step) (i : ℕ) (d : Step) → i
 unfolding steps_words
 steps_more f l i d h = rw (← take_more l i d h, map-append, words_append, append-nil)
 
-pub message_bytes_lem : (r : Recipe) (pool : List Float) (i : ℕ) → i ≡ r.count → r.count ≤ length r.steps → bytes_of (r.count ∷ steps_words (map (parts_of pool) (take i r.steps))) ≡ message_of r pool
+pub message_bytes_lem :
+    (r : Recipe) (pool : List Float) (i : ℕ) → length (take r.count r.steps) ≤ i → r.count ≤ length r.steps
+    → bytes_of (r.count ∷ steps_words (map (parts_of pool) (take i (take r.count r.steps)))) ≡ message_of r pool
 unfolding message_of message_bytes
-message_bytes_lem r pool i e h = rw (e, length-map, length-take-le r.count r.steps h)
+message_bytes_lem r pool i e h = rw (take_all i (take r.count r.steps) e, length-map, length-take-le r.count r.steps h)

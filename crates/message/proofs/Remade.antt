@@ -12,7 +12,10 @@ use lib.Dec.{eqb}
 use lib.Ieee.{Float}
 use Rattle.pool.specs.Pool.{is_in, numbers_of}
 use Rattle.message.specs.Fields.{Payload, shape_of, Field, Value, Values, up_to, float, pooled_by, pooled}
-use Rattle.message.specs.Steps.{range, matrix_shapes, matrix_at, matrix_in, function_shapes, function_at, operator_by, operator_code, edge_by, edge_code, channel_by, channel_code, yes_code, light_by, light_parts, function, colour, function_in, function_of, past, transferred, is_code, form_of, Parts, parts_of, made_of, pooled_of}
+use Rattle.morphology.specs.Numbered.{operator_number}
+use Rattle.convolve_matrix.specs.Numbered.{edge_mode_number}
+use Rattle.displacement_map.specs.DisplacementMap.{channel_number}
+use Rattle.message.specs.Steps.{range, matrix_shapes, matrix_at, matrix_in, function_shapes, function_at, operator_by, edge_by, channel_by, yes_code, light_by, light_parts, function, colour, function_in, function_of, past, transferred, is_code, form_of, Parts, parts_of, made_of, pooled_of}
 use Rattle.message.specs.Answers.{matrix_ranges, function_ranges, ranges_of}
 use Rattle.message.proofs.Fields.{Fit}
 use Rattle.message.proofs.Ranges.{InPool, StepIn, in_both}
@@ -61,18 +64,18 @@ range_stands {used} {pool} {l} h =
     rw (i.1, i.0, h.is, drop_at h.front (l ++ h.rest) used h.at, take-append_seam l h.rest)
 
 -- ---- a code is that of what it names
-operator_remade : (k : ℕ) → k < 2 → operator_code (operator_by k) ≡ k
+operator_remade : (k : ℕ) → k < 2 → operator_number (operator_by k) ≡ k
 operator_remade zero h = refl
 operator_remade (suc zero) h = refl
 operator_remade (suc (suc k)) h = absurd (omega arith)
 
-edge_remade : (k : ℕ) → k < 3 → edge_code (edge_by k) ≡ k
+edge_remade : (k : ℕ) → k < 3 → edge_mode_number (edge_by k) ≡ k
 edge_remade zero h = refl
 edge_remade (suc zero) h = refl
 edge_remade (suc (suc zero)) h = refl
 edge_remade (suc (suc (suc k))) h = absurd (omega arith)
 
-channel_remade : (k : ℕ) → k < 4 → channel_code (channel_by k) ≡ k
+channel_remade : (k : ℕ) → k < 4 → channel_number (channel_by k) ≡ k
 channel_remade zero h = refl
 channel_remade (suc zero) h = refl
 channel_remade (suc (suc zero)) h = refl

@@ -11,11 +11,12 @@ use lib.ListN.{length, get_or, take, length-append, length-map, length-take}
 use lib.Ieee.{Float}
 use Rattle.recipe.specs.declared.Step.{Step}
 use Rattle.recipe.specs.Tests.{no_step, step_of}
-use Rattle.message.specs.declared.MessageAnswer.{MessageAnswer}
-use Rattle.message.specs.declared.MessageAnswer.TheVariants.{Done, Shape, Steps, Malformed, Room}
+use Rattle.std.specs.Prelude.{Result, Ok, Err}
+use Rattle.message.specs.declared.MessageError.{MessageError}
+use Rattle.message.specs.declared.MessageError.TheVariants.{Shape}
 use Rattle.message.specs.Steps.{Parts, parts_of, pooled_of}
 use Rattle.message.specs.Message.{Content, message_bytes, end_to_end, good}
-use Rattle.message.specs.Answers.{ranges_of, all_in_lem, and_then, ranges_answer, message_of}
+use Rattle.message.specs.Answers.{done, ranges_of, all_in_lem, and_then, ranges_answer, message_of}
 use Rattle.message.specs.RoundTrip as says
 use Rattle.message.specs.RoundTrip.{counted, end_to_end_from, numbers_in, numbers_of_all, EachOf, EachStep, typed, no_nan, FreeOfNan, steps_in, Holds}
 use Rattle.message.proofs.Fields.{Known}
@@ -32,15 +33,12 @@ pub apart : {A : Type 0} → ◌≡◌ {A = ℕ} 0 1 → A
 apart e = absurd (eqb-false 0 1 refl e)
 
 -- two tests that are passed
-passed : (p : MessageAnswer) (t : Bool) (n : ℕ) → and_then p (cond t Done (Shape n)) ≡ Done → (p ≡ Done) × (t ≡ true)
-passed Done true n h = (refl, refl)
-passed Done false n h = apart (cc)
-passed (Shape i) t n h = apart (cc)
-passed Steps t n h = apart (cc)
-passed (Malformed p) t n h = apart (cc)
-passed Room t n h = apart (cc)
+passed : (p : Result Unit MessageError) (t : Bool) (n : ℕ) → and_then p (cond t done (Err (Shape n))) ≡ done → (p ≡ done) × (t ≡ true)
+passed (Ok u) true n h = (refl, refl)
+passed (Ok u) false n h = apart (cc)
+passed (Err e) t n h = apart (cc)
 
-in_below : (f : ℕ → Step) (pool : List Float) (n : ℕ) → ranges_answer f (length pool) n ≡ Done → (i : ℕ) → i < n → StepIn pool (f i)
+in_below : (f : ℕ → Step) (pool : List Float) (n : ℕ) → ranges_answer f (length pool) n ≡ done → (i : ℕ) → i < n → StepIn pool (f i)
 unfolding ranges_answer
 in_below f pool zero h i k = absurd (omega arith)
 in_below f pool (suc n) h i k =

@@ -1,138 +1,151 @@
--- What is read in parts: a part that went wrong ends it, and parts that went well stand one after the other.
-use Prim.Native.Nat.{ℕ, ◌+◌, ◌≤◌}
+-- What is taken in parts: a wrong number ends it, and parts that were taken stand one after the other.
+use Prim.Native.Nat.{ℕ, zero, suc, ◌≤◌, ◌<◌}
 use mathlib.Core.Path.{◌≡◌, refl, sym, ◌∙◌}
+use mathlib.Core.Bool.{Bool, true, false}
 use mathlib.Core.List.{List, [], ◌∷◌, ◌++◌}
 use native.Mathlib.Nat.{add-zero}
+use borrow.Author.Tests.{ltb-true}
+use lib.Dec.{ltb}
 use native.Mathlib.Omega.{arith}
-use borrow.Author.Tests.{eqb-false}
-use lib.ListN.{length, length-append}
+use lib.ListN.{length-append}
 use lib.Ieee.{Float}
-use types.Run.{OneOf}
-use denote.Enum.Declared.{tag_of}
-use Rattle.number.specs.Words.{Words, words_at, Got, got, wrong, and_then}
+use Rattle.std.specs.Prelude.{Result, Ok, Err}
+use Rattle.number.specs.declared.Wrong.{Wrong}
+use Rattle.number.specs.declared.reader.Reader.{Reader}
+use Rattle.number.specs.Number.{Reads}
+use Rattle.number.specs.Words.{Words, word, stop, Got, got, wrong, and_then}
 use Rattle.number.proofs.Stores.{sets_append}
-use Rattle.message.specs.declared.Place.{Place}
-use Rattle.message.specs.declared.Place.TheVariants.{At, Wrong}
-use Rattle.message.specs.declared.block.Block.{Block}
-use Rattle.message.specs.Inner.Reading.{got_at, OnAt, Room, Taken, read_block, firsts, BlockRead}
-use Rattle.message.specs.contracts.Place.{the_type}
+use Rattle.number.proofs.Words.{word_here, stop_here, further, wrong_at}
+use Rattle.message.specs.declared.lists.Pool.{Pool}
+use Rattle.message.specs.Fields.{Field, Value, Values, apply, read_field, read, pooled}
+use Rattle.recipe.specs.declared.Step.{Step}
+use Rattle.message.specs.Steps.{form_of, is_code, read_form, read_of, read_step}
+use Rattle.message.specs.Inner.Reading.{words, Took, Fitting, Taken, read_block, StepFine, PlainTaken}
+use Rattle.message.proofs.PlainRows.{after, bounds_of, bounded, values_of, row_read, row_pooled}
 
--- ---- places
-abbrev pub IsWrong : Place → Type 0
-IsWrong (At end) = ⊥
-IsWrong (Wrong p) = Unit {0}
+-- ---- a number at a reader's place
+module _ (r n : Reader) {t : Result ℕ Wrong} (m : n.message ≡ r.message) (h : Reads r.message.now r.at t n.at) where
+  pub here : {k : ℕ} → t ≡ Ok k → words r ≡ word r.at k (words n)
+  here {k} e = let z = rw e at h in word_here r.message.now r.at k n.at z ∙ rw m
 
--- at the `else` of `let Place::At(next) = place`
-pub is_wrong : (place : Place) → OneOf (1 ∷ []) (tag_of the_type place) → IsWrong place
-is_wrong (At end) h = absurd (eqb-false 0 1 refl h)
-is_wrong (Wrong p) h = tt
+  pub on : {k : ℕ} → t ≡ Ok k → r.at < n.at
+  on {k} e = let z = rw e at h in further r.message.now r.at k n.at z
 
-on_at : {P Q : Type 0} (place : Place) → (P → Q) → OnAt place P → OnAt place Q
-on_at (At end) f h = f h
-on_at (Wrong p) f h = tt
+  pub nothing : {w : Wrong} → t ≡ Err w → words r ≡ stop w.at
+  nothing {w} e = let z = rw e at h in stop_here r.message.now r.at w z.0 ∙ rw (wrong_at r.message.now r.at w (sym z.0))
 
-at_place : {P : Type 0} {place : Place} (end : ℕ) → place ≡ At end → OnAt place P → P
-at_place end e h = rw e at h
+-- ---- results
+module _ {A T : Type 0} {wanted : Got A} {fine : T → A → List Float → Type 0} {next : Reader} {pool last : Pool} where
+  pub well_taken : (t : T) → Fitting wanted (fine t) next pool last → Taken wanted fine next pool last (Ok t)
+  well_taken t f = record {
+    well = λ u e. let z : t ≡ u = cc in rw (← z) f;
+    ill = λ w e. let z : ⊥ = cc in absurd z;
+  }
 
-pub no_fact : (P : Type 0) (place : Place) → IsWrong place → OnAt place P
-no_fact P (At end) h = absurd h
-no_fact P (Wrong p) h = tt
+  pub ill_taken : {r : Result T Wrong} {w : Wrong} → r ≡ Err w → wanted ≡ wrong w.at → Taken wanted fine next pool last r
+  ill_taken {r} {w} e f = rw e (record {
+    well = λ u g. let z : ⊥ = cc in absurd z;
+    ill = λ v g. let z : w ≡ v = cc in rw (← z) f;
+  })
 
-pub no_room : (more : ℕ) (place : Place) → IsWrong place → Room more place
-no_room more (At end) h = absurd h
-no_room more (Wrong p) h = tt
+-- ---- one part, then the rest
+module _ {A : Type 0} {first : Got A} {v : A} {l : List Float} {mid : Reader} {p q : Pool} (t : Took first v l mid p q) where
+  pub then_took :
+      {B C : Type 0} (rest : Words → Got B) {w : B} {m : List Float} {next : Reader} {s : Pool} → Took (rest (words mid)) w m next q s
+      → (f : A → B → C) → Took (and_then first (λ a ws. and_then (rest ws) (λ b ws'. got (f a b) ws'))) (f v w) (l ++ m) next p s
+  then_took {B} {C} rest {w} {m} {next} {s} u f = record {
+    reading = rw (t.reading, u.reading);
+    stored = u.stored ∙ rw (t.stored, t.counted) (sets_append l p.numbers.now p.used m);
+    counted = let a = t.counted in let b = u.counted in rw length-append (omega arith);
+    room = u.room;
+  }
 
-module _ {A B : Type 0} (s : List ℕ) where
-  pub got_made : (f : A → B) (v : A) (place : Place) → and_then (got_at s v place) (λ a rest. got (f a) rest) ≡ got_at s (f v) place
-  got_made f v (At end) = refl
-  got_made f v (Wrong p) = refl
+  pub made_took : {C : Type 0} (f : A → C) → Took (and_then first (λ a ws. got (f a) ws)) (f v) l mid p q
+  made_took f = record { reading = rw t.reading; stored = t.stored; counted = t.counted; room = t.room }
 
-  pub got_wrong : (k : A → Words → Got B) (v : A) (w : B) (place : Place) → IsWrong place → and_then (got_at s v place) k ≡ got_at s w place
-  got_wrong k v w (At end) h = absurd h
-  got_wrong k v w (Wrong p) h = refl
+-- nothing is taken
+pub none_took : {A : Type 0} {g : Got A} {v : A} {next : Reader} {p : Pool} → g ≡ got v (words next) → p.used ≤ next.at → Took g v [] next p p
+none_took {A} {g} {v} {next} {p} e r = record { reading = e; stored = refl; counted = sym (add-zero p.used); room = r }
 
--- ---- without numbers
-module _ {A : Type 0} {wanted : Got A} {s : List ℕ} {used : ℕ} {pool : List Float} {fine : A → List Float → Type 0} (v : A) where
-  pub nothing_taken : {p more : ℕ} → wanted ≡ wrong p → Taken wanted s used pool pool (Wrong p) more fine
-  nothing_taken e = record { value = v; list = []; reading = e; stored = refl; held = tt; room = tt }
+pub took_as : {A : Type 0} {g g' : Got A} {v : A} {l : List Float} {next : Reader} {p q : Pool} → g' ≡ g → Took g v l next p q → Took g' v l next p q
+took_as e t = record { reading = e ∙ t.reading; stored = t.stored; counted = t.counted; room = t.room }
 
-  pub value_taken : (next : ℕ) → wanted ≡ got v (words_at s next) → fine v [] → used ≤ next → Taken wanted s used pool pool (At next) used fine
-  value_taken next e f r = record { value = v; list = []; reading = e; stored = refl; held = (f, sym (add-zero used)); room = r }
+-- ---- fields one after the other
+module _ (f : Field) (fs : List Field) (ws : Words) where
+  pub field_wrong : {w : ℕ} → read_field f ws ≡ wrong w → read (f ∷ fs) ws ≡ wrong w
+  unfolding read
+  field_wrong e = rw e
 
-pub block_taken :
-    {s : List ℕ} {at used : ℕ} {row : List ℕ} {r : Block} {pool : List Float} → BlockRead s at row r → used ≤ at
-    → Taken (read_block row (words_at s at)) s used pool pool r.place used (λ v l. (v ≡ firsts 0 (length row) r.words) × (l ≡ []))
-block_taken {s} {at} {used} {row} {r} b h = record {
-  value = firsts 0 (length row) r.words;
-  list = [];
-  reading = b.reading;
-  stored = refl;
-  held = still _ r.place;
-  room = further r.place b.further;
+  module _ {v : Value f} {l : List Float} {mid : Reader} {p q : Pool} (t : Took (read_field f ws) v l mid p q) where
+    pub fields_wrong : {w : ℕ} → read fs (words mid) ≡ wrong w → read (f ∷ fs) ws ≡ wrong w
+    unfolding read
+    fields_wrong e = rw (t.reading, e)
+
+    pub fields_took : {vs : Values fs} {m : List Float} {next : Reader} {s : Pool} → Took (read fs (words mid)) vs m next q s → Took (read (f ∷ fs) ws) (v, vs) (l ++ m) next p s
+    unfolding read
+    fields_took u = then_took t (read fs) u (λ a b. (a, b))
+
+pub no_fields : {next : Reader} {p : Pool} → p.used ≤ next.at → Took (read [] (words next)) tt [] next p p
+unfolding read
+no_fields r = none_took refl r
+
+-- ---- a step: a row of numbers, then the fields from the first list on
+abbrev row_of : ℕ → List Field
+row_of code = (form_of code).row
+
+module _ (code : ℕ) (small : bounded (row_of code) ≡ true) (used : ℕ) (ws : Words) where
+  pub head_wrong : {w : ℕ} → read_block (bounds_of (row_of code)) ws ≡ wrong w → read_form used (form_of code) ws ≡ wrong w
+  unfolding read_form
+  head_wrong e = rw (row_read (row_of code) small ws, e)
+
+  module _ {h : List ℕ} (mid : Reader) (e : read_block (bounds_of (row_of code)) ws ≡ got h (words mid)) where
+    pub tail_wrong : {w : ℕ} → read (after (row_of code)) (words mid) ≡ wrong w → read_form used (form_of code) ws ≡ wrong w
+    unfolding read_form
+    tail_wrong f = rw (row_read (row_of code) small ws, e, f)
+
+    pub form_taken :
+        {vs : Values (after (row_of code))} {l : List Float} {next : Reader} {p q : Pool} {s : Step} → Took (read (after (row_of code)) (words mid)) vs l next p q → used ≡ p.used
+        → s ≡ apply (row_of code) ((form_of code).made used) (values_of (row_of code) h vs) → pooled (after (row_of code)) vs ≡ l → Taken (read_form used (form_of code) ws) StepFine next p q (Ok s)
+    unfolding read_form
+    form_taken {vs} {l} {next} {p} {q} {s} t u f g = well_taken s (record {
+      value = read_of used (form_of code) (values_of (row_of code) h vs);
+      list = l;
+      took = record { reading = rw (row_read (row_of code) small ws, e, t.reading); stored = t.stored; counted = t.counted; room = t.room };
+      fits = (f, row_pooled (row_of code) h vs ∙ g);
+    })
+
+-- ---- a step without lists
+pub plain_takes :
+    (code : ℕ) {r n : Reader} {p : Pool} {t : Result Step Wrong} → PlainTaken code r n t → p.used ≤ r.at → Taken (read_form p.used (form_of code) (words r)) StepFine n p p t
+plain_takes code {r} {n} {p} {t} h k = record {
+  well = λ s e. let w = h.well s e p.used in record {
+    value = record { read_step_lem = s; read_numbers_lem = [] };
+    list = [];
+    took = none_took w.0 (let a = w.1 in omega arith);
+    fits = (refl, refl);
+  };
+  ill = λ w e. h.ill w e p.used;
 }
+
+-- ---- a code, then its fields
+module _ (code : ℕ) (known : is_code code ≡ true) (r m : Reader) {k : ℕ} (here' : words r ≡ word r.at k (words m)) (is : k ≡ code) where
+  pub code_taken : {n : Reader} {p q : Pool} {t : Result Step Wrong} → Taken (read_form p.used (form_of code) (words m)) StepFine n p q t → Taken (read_step p.used (words r)) StepFine n p q t
+  unfolding read_step
+  code_taken t = rw (here', is, known) t
+
+module _ (used : ℕ) (r : Reader) where
+  pub no_code : {w : ℕ} → words r ≡ stop w → read_step used (words r) ≡ wrong w
+  unfolding read_step
+  no_code e = rw e
+
+  pub unknown_code : {k : ℕ} (m : Reader) → words r ≡ word r.at k (words m) → is_code k ≡ false → read_step used (words r) ≡ wrong r.at
+  unfolding read_step
+  unknown_code m e f = rw (e, f)
+
+pub not_a_code : (k : ℕ) → ((i : ℕ) → 1 ≤ i → i ≤ 9 → k ≡ i → ⊥) → is_code k ≡ false
+not_a_code zero h = refl
+not_a_code (suc i) h = by (ltb i 9) refl
   where
-    still : (x : List ℕ) (p : Place) → OnAt p (((x ≡ x) × (◌≡◌ {A = List Float} [] [])) × (used ≡ used + 0))
-    still x (At end) = ((refl, refl), sym (add-zero used))
-    still x (Wrong p) = tt
-
-    further : (p : Place) → Room at p → Room used p
-    further (At end) g = omega arith
-    further (Wrong p) g = tt
-
--- ---- with numbers
-module _ {A : Type 0} {wanted : Got A} {s : List ℕ} {used : ℕ} {before after : List Float} {place : Place} {more : ℕ} {fine : A → List Float → Type 0} (t : Taken wanted s used before after place more fine) where
-  -- no more numbers than bytes
-  pub taken_room : {end : ℕ} → place ≡ At end → more ≤ end
-  taken_room e = rw e at t.room
-
-  module _ {B : Type 0} {wanted' : Got B} {fine' : B → List Float → Type 0} where
-    -- the value is made into another
-    pub made_taken : (f : A → B) → wanted' ≡ and_then wanted (λ a rest. got (f a) rest) → ((v : A) (l : List Float) → fine v l → fine' (f v) l) → Taken wanted' s used before after place more fine'
-    made_taken f e g = record {
-      value = f t.value;
-      list = t.list;
-      reading = e ∙ rw t.reading (got_made s f t.value place);
-      stored = t.stored;
-      held = on_at place (λ h. (g t.value t.list h.0, h.1)) t.held;
-      room = t.room;
-    }
-
-    -- it went wrong, and so does what begins with it
-    pub wrong_taken : {more' : ℕ} (v : B) (k : A → Words → Got B) → IsWrong place → wanted' ≡ and_then wanted k → Taken wanted' s used before after place more' fine'
-    wrong_taken {more'} v k h e = record {
-      value = v;
-      list = t.list;
-      reading = e ∙ rw t.reading (got_wrong s k t.value v place h);
-      stored = t.stored;
-      held = no_fact _ place h;
-      room = no_room more' place h;
-    }
-
-  -- it went well, and another part follows
-  module _ {B : Type 0} {next : ℕ} (at_next : place ≡ At next) {wanted₂ : Got B} {last : List Float} {place₂ : Place} {more₂ : ℕ} {fine₂ : B → List Float → Type 0} (u : Taken wanted₂ s more after last place₂ more₂ fine₂) where
-    well : fine t.value t.list × (more ≡ used + length t.list)
-    well = at_place next at_next t.held
-
-    pub both_taken :
-        {C : Type 0} {wanted₃ : Got C} {fine₃ : C → List Float → Type 0} (f : A → B → C) → wanted₃ ≡ and_then wanted₂ (λ b rest. got (f t.value b) rest)
-        → ((b : B) (l : List Float) → more ≡ used + length t.list → fine t.value t.list → fine₂ b l → fine₃ (f t.value b) (t.list ++ l))
-        → Taken wanted₃ s used before last place₂ more₂ fine₃
-    both_taken f e g = record {
-      value = f t.value u.value;
-      list = t.list ++ u.list;
-      reading = e ∙ rw u.reading (got_made s (f t.value) u.value place₂);
-      stored = u.stored ∙ rw (t.stored, well.1) (sets_append t.list before used u.list);
-      held = on_at place₂ (λ h. (g u.value u.list well.1 well.0 h.0, together h)) u.held;
-      room = u.room;
-    }
-      where
-        together : {P : Type 0} → P × (more₂ ≡ more + length u.list) → more₂ ≡ used + length (t.list ++ u.list)
-        together h = let w = well.1 in let x = h.1 in rw (length-append t.list u.list) (omega arith)
-
-  -- what it gives, where it went well
-  pub taken_value : {next : ℕ} → place ≡ At next → wanted ≡ got t.value (words_at s next)
-  taken_value {next} e = t.reading ∙ rw e
-
-  -- and what holds of it there
-  pub taken_held : {next : ℕ} → place ≡ At next → fine t.value t.list × (more ≡ used + length t.list)
-  taken_held {next} e = at_place next e t.held
+    by : (t : Bool) → ltb i 9 ≡ t → t ≡ false
+    by true e = let l = ltb-true i 9 e in absurd (h (suc i) (omega arith) (omega arith) refl)
+    by false e = refl

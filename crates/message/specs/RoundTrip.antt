@@ -1,5 +1,5 @@
 -- A recipe that is written is read back, and a message that is read is written back: in their own words, as types. proofs/RoundTrip.antt, InOrder.antt and Calls.antt prove them.
-use Rattle.std.specs.Prelude.{ℕ, ◌+◌, ◌*◌, ◌≤◌, ◌<◌, ◌≡◌, not, List, [], ◌∷◌, ◌++◌, map, length, get_or, take, ℤ, T, Float}
+use Rattle.std.specs.Prelude.{ℕ, ◌+◌, ◌*◌, ◌≤◌, ◌<◌, ◌≡◌, not, Result, Ok, List, [], ◌∷◌, ◌++◌, map, length, get_or, take, ℤ, T, Float}
 use Rattle.std.proofs.lemmas.List.Edits.{sets}
 use Rattle.std.specs.Float.{binary32, binary64}
 use Rattle.std.specs.Float.Ieee.{fits, is_nan, of_bits}
@@ -20,11 +20,10 @@ use Rattle.recipe.specs.declared.Step.{Step}
 use Rattle.recipe.specs.declared.Recipe.{Recipe}
 use Rattle.recipe.specs.Tests.{step_of, step_limit}
 use Rattle.sheet.specs.Contract.{Lent, was, became}
-use Rattle.message.specs.declared.MessageAnswer.TheVariants.{Done}
-use Rattle.message.specs.declared.reading.Reading.{Reading}
+use Rattle.message.specs.declared.MessageError.{MessageError}
 use Rattle.message.specs.Steps.{parts_of}
 use Rattle.message.specs.Message.{Content, message_bytes, good, read_message}
-use Rattle.message.specs.Answers.{recipe_of, content_of, ReadExactly, ranges_of, function_ranges, ranges_answer, message_of, write_answer}
+use Rattle.message.specs.Answers.{done, recipe_of, content_of, ReadExactly, ranges_of, function_ranges, ranges_answer, message_of, write_answer}
 
 -- ---- the same step, with its ranges one after the other from `used` on
 -- how many numbers there are in ranges
@@ -185,7 +184,7 @@ pub record Takes (r : Recipe) (pool : List Float) : Type 0 where
   pub steps_typed : EachOf (EachStep typed) (steps_in r)
   pub pool_typed : EachOf typed.float pool
   pub few_steps : r.count ≤ step_limit
-  pub in_pool : ranges_answer (step_of r) (length pool) r.count ≡ Done
+  pub in_pool : ranges_answer (step_of r) (length pool) r.count ≡ done
   pub few_numbers : length (numbers_of_all pool (steps_in r)) ≤ 4294967295
 
 -- the same steps and the same numbers, the ranges end to end from the pool's start
@@ -243,12 +242,12 @@ OneMessage = (s s' : List ℕ) (c : Content) → Holds s c → Holds s' c → Fr
 -- what `write` makes of a recipe, `read` reads back, with room enough
 abbrev pub WrittenIsRead : Type 0
 WrittenIsRead =
-    (r : Recipe) (pool : List Float) (lent : Lent Float) (x : Reading) → Takes r pool → ReadExactly (message_of r pool) lent x
+    (r : Recipe) (pool : List Float) (lent : Lent Float) (x : Result Recipe MessageError) → Takes r pool → ReadExactly (message_of r pool) lent x
     → length (numbers_of_all pool (steps_in r)) ≤ length (was lent)
-    → (x.answer ≡ Done) × (x.recipe ≡ recipe_of (end_to_end_from 0 (steps_in r))) × (became lent ≡ sets (was lent) 0 (numbers_of_all pool (steps_in r)))
+    → (x ≡ Ok (recipe_of (end_to_end_from 0 (steps_in r)))) × (became lent ≡ sets (was lent) 0 (numbers_of_all pool (steps_in r)))
 
 -- what `read` does not refuse, `write` writes again of the recipe and the pool, byte for byte where no float is a NaN, and with room for as many bytes refuses nothing
 abbrev pub ReadIsWritten : Type 0
 ReadIsWritten =
-    (s : List ℕ) (lent : Lent Float) (x : Reading) → Bytes s → ReadExactly s lent x → x.answer ≡ Done → FreeOfNan (content_of (read_message s))
-    → (message_of x.recipe (became lent) ≡ s) × (write_answer x.recipe (became lent) (length s) ≡ Done)
+    (s : List ℕ) (lent : Lent Float) (x : Result Recipe MessageError) (r : Recipe) → Bytes s → ReadExactly s lent x → x ≡ Ok r → FreeOfNan (content_of (read_message s))
+    → (message_of r (became lent) ≡ s) × (write_answer r (became lent) (length s) ≡ done)

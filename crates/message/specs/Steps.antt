@@ -5,14 +5,17 @@ use Rattle.pool.specs.declared.Numbers.{Numbers}
 use Rattle.pool.specs.Pool.{numbers_of}
 use Rattle.morphology.specs.declared.operator.MorphologyOperator.{MorphologyOperator}
 use Rattle.morphology.specs.declared.operator.MorphologyOperator.TheVariants.{Dilate, Erode}
+use Rattle.morphology.specs.Numbered.{operator_number}
 use Rattle.color_matrix.specs.declared.ColorMatrix.{ColorMatrix as ColorMatrixType}
 use Rattle.color_matrix.specs.declared.ColorMatrix.TheVariants as matrix
 use Rattle.component_transfer.specs.declared.TransferFunction.{TransferFunction}
 use Rattle.component_transfer.specs.declared.TransferFunction.TheVariants as transfer
 use Rattle.convolve_matrix.specs.declared.edge.EdgeMode.{EdgeMode}
 use Rattle.convolve_matrix.specs.declared.edge.EdgeMode.TheVariants as edge
+use Rattle.convolve_matrix.specs.Numbered.{edge_mode_number}
 use Rattle.displacement_map.specs.declared.ColorChannel.{ColorChannel}
 use Rattle.displacement_map.specs.declared.ColorChannel.TheVariants.{R, G, B, A}
+use Rattle.displacement_map.specs.DisplacementMap.{channel_number}
 use Rattle.lighting.specs.declared.light.LightSource.{LightSource}
 use Rattle.lighting.specs.declared.light.LightSource.TheVariants.{Distant, Point}
 use Rattle.recipe.specs.declared.Work.{Work}
@@ -25,26 +28,11 @@ use Rattle.message.specs.Fields.{Shape, none, one, two, list, Payload, shape_of,
 abbrev pub operator_by : ℕ → MorphologyOperator
 operator_by k = cond (eqb k 0) Dilate Erode
 
-abbrev pub operator_code : MorphologyOperator → ℕ
-operator_code Dilate = 0
-operator_code Erode = 1
-
 abbrev pub edge_by : ℕ → EdgeMode
 edge_by k = cond (eqb k 0) edge.None (cond (eqb k 1) edge.Duplicate edge.Wrap)
 
-abbrev pub edge_code : EdgeMode → ℕ
-edge_code edge.None = 0
-edge_code edge.Duplicate = 1
-edge_code edge.Wrap = 2
-
 abbrev pub channel_by : ℕ → ColorChannel
 channel_by k = cond (eqb k 0) R (cond (eqb k 1) G (cond (eqb k 2) B A))
-
-abbrev pub channel_code : ColorChannel → ℕ
-channel_code R = 0
-channel_code G = 1
-channel_code B = 2
-channel_code A = 3
 
 abbrev pub light_by : ℕ → Float → Float → Float → LightSource
 light_by k x y z = cond (eqb k 0) (Distant x y z) (Point x y z)
@@ -212,7 +200,7 @@ light_parts (Distant x y z) = (0, (x, (y, (z, tt))))
 light_parts (Point x y z) = (1, (x, (y, (z, tt))))
 
 abbrev pub parts : List Float → Work → ℕ → Parts
-parts pool (Morphology a op rx ry) o = record { code = 1; values = (a, (o, (operator_code op, (rx, (ry, tt))))) }
+parts pool (Morphology a op rx ry) o = record { code = 1; values = (a, (o, (operator_number op, (rx, (ry, tt))))) }
 parts pool (ColorMatrix a m) o = record { code = 2; values = (a, (o, (matrix_in pool m, tt))) }
 parts pool (ComponentTransfer s r g b a) o = record {
   code = 3;
@@ -221,11 +209,11 @@ parts pool (ComponentTransfer s r g b a) o = record {
 parts pool (Arithmetic a b k1 k2 k3 k4) o = record { code = 4; values = (a, (b, (o, (k1, (k2, (k3, (k4, tt))))))) }
 parts pool (ConvolveMatrix a m) o = record {
   code = 5;
-  values = (a, (o, (m.columns, (m.rows, (m.target_x, (m.target_y, (numbers_of m.matrix pool, (m.divisor, (m.bias, (edge_code m.edge_mode, (yes_code m.preserve_alpha, tt)))))))))));
+  values = (a, (o, (m.columns, (m.rows, (m.target_x, (m.target_y, (numbers_of m.matrix pool, (m.divisor, (m.bias, (edge_mode_number m.edge_mode, (yes_code m.preserve_alpha, tt)))))))))));
 }
 parts pool (DisplacementMap a b xs ys sx sy scale) o = record {
   code = 6;
-  values = (a, (b, (o, (channel_code xs, (channel_code ys, (sx, (sy, (scale, tt))))))));
+  values = (a, (b, (o, (channel_number xs, (channel_number ys, (sx, (sy, (scale, tt))))))));
 }
 parts pool (Turbulence t) o = record {
   code = 7;

@@ -1,100 +1,52 @@
 // A count and so many numbers: matrices, tables and kernels, which stand in a pool.
-ghost use Rattle.std.specs.Prelude.{◌≡◌, ◌+◌, ◌*◌, ◌≤◌, ◌<◌, min, length, set};
-ghost use Rattle.number.specs.Number.{Put};
-ghost use Rattle.number.specs.Words.{bytes_of};
-ghost use Rattle.message.specs.Fields.{write_numbers};
-ghost use Rattle.message.specs.Inner.Reading.{FloatsTaken, NumbersTaken};
+ghost use Rattle.std.specs.Prelude.{◌≡◌, ◌+◌, ◌≤◌, ◌<◌, set};
+ghost use Rattle.message.specs.Inner.Reading.{NumbersTaken};
 
-use crate::Place;
-use number::{Number, bits_of, float_of, read_number, write_number};
+use number::{Reader, Wrong, float_of};
 use pool::Numbers;
 
-// Numbers that were read: their range of the pool, how many are in the pool then, and the place after them.
-#[derive(Clone, Copy)]
-pub struct NumbersRead {
-    pub numbers: Numbers,
+// The numbers that are lent for lists, and how many of them were taken. That they are no more than a reader has passed is a
+// fact of both, which neither type can keep: each function that takes both asks for it.
+#[derive(Drop)]
+pub struct Pool<'a> {
+    pub numbers: &'a mut [f32],
     pub used: usize,
-    pub place: Place,
 }
 
-// Stores x at i, if there is such a place.
-fn put(pool: &mut [f32], i: usize, x: f32)
-    ensures { pool.new ≡ set pool.old i x }
-{
-    if i < pool.len() {
-        pool[i] = x;
+impl<'a> Pool<'a> {
+    pub fn new(numbers: &'a mut [f32]) -> Pool<'a>
+        ensures same { result.numbers.ghost_name ≡ numbers.entry.ghost_name }
+        ensures all { (result.numbers.now ≡ numbers.old) × (result.used ≡ 0) }
+    {
+        Pool { numbers, used: 0 }
+    }
+
+    // Stores x after the others, if there is room.
+    fn push(&mut self, x: f32)
+        requires { self.old.used < 18446744073709551615 }
+        ensures same { self.new.numbers.ghost_name ≡ self.old.numbers.ghost_name }
+        ensures stored { self.new.numbers.now ≡ set self.old.numbers.now self.old.used x }
+        ensures used { self.new.used ≡ self.old.used + 1 }
+    {
+        if self.used < self.numbers.len() {
+            self.numbers[self.used] = x;
+        }
+        self.used += 1;
     }
 }
 
-// Reads `count` numbers, and stores them in the pool from `used` on, as far as it goes: none in a pool of no numbers.
-fn floats_at(message: &[u8], at: usize, count: usize, pool: &mut [f32], used: usize) -> Place
-    requires { used ≤ at }
-    ensures { FloatsTaken message.now at count used pool.old pool.new result }
+// Takes a count and so many numbers, which stand in the pool from its used numbers on.
+pub fn numbers(reader: &mut Reader, pool: &mut Pool) -> Result<Numbers, Wrong>
+    requires { pool.old.used ≤ reader.old.at }
+    ensures same { (reader.new.message ≡ reader.old.message) × (pool.new.numbers.ghost_name ≡ pool.old.numbers.ghost_name) }
+    ensures taken { NumbersTaken reader.old reader.new pool.old pool.new result }
 {
-    let mut i = 0;
-    let mut place = at;
-    while i < count {
-        let Number::Value(n, next) = read_number(message, place) else {
-            return Place::Wrong(place);
-        };
-        put(pool, used + i, float_of(n));
-        place = next;
-        i += 1;
+    // A range names no number from 2^32 - 1 on.
+    let start = pool.used.min(4294967295) as u32;
+    let count = reader.number()?;
+    for _ in 0..count {
+        let bits = reader.number()?;
+        pool.push(float_of(bits));
     }
-    Place::At(place)
-}
-
-// A start that a range can name.
-fn start_of(used: usize) -> u32
-    ensures { result ≡ min used 4294967295 }
-{
-    if used < 4294967295 {
-        used as u32
-    } else {
-        4294967295
-    }
-}
-
-// Reads a count and so many numbers, which stand in the pool from `used` on.
-pub fn numbers_at(message: &[u8], at: usize, pool: &mut [f32], used: usize) -> NumbersRead
-    requires { used ≤ at }
-    ensures { NumbersTaken message.now at used pool.old pool.new result }
-{
-    let start = start_of(used);
-    let Number::Value(count, next) = read_number(message, at) else {
-        return NumbersRead {
-            numbers: Numbers { start, count: 0 },
-            used,
-            place: Place::Wrong(at),
-        };
-    };
-    let place = floats_at(message, next, count as usize, pool, used);
-    let numbers = Numbers { start, count };
-    let Place::At(end) = place else {
-        return NumbersRead {
-            numbers,
-            used,
-            place,
-        };
-    };
-    NumbersRead {
-        numbers,
-        used: used + (count as usize),
-        place: Place::At(end),
-    }
-}
-
-// Writes the count of the numbers and the numbers from `at` on, and gives the place after them.
-pub fn write_numbers(out: &mut [u8], at: usize, numbers: &[f32]) -> usize
-    requires { (length numbers.now < 4294967296) × (at + 5 * length numbers.now + 5 ≤ 18446744073709551615) }
-    ensures put { Put out.old at (bytes_of (write_numbers numbers.now)) out.new result }
-    ensures upper_bound { result ≤ at + 5 * length numbers.now + 5 }
-{
-    let mut place = write_number(out, at, numbers.len() as u32);
-    let mut i = 0;
-    while i < numbers.len() {
-        place = write_number(out, place, bits_of(numbers[i]));
-        i += 1;
-    }
-    place
+    Ok(Numbers { start, count })
 }

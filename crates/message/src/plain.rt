@@ -1,101 +1,70 @@
 // Steps without lists: a row of numbers, read at once.
-ghost use Rattle.std.specs.Prelude.{◌≤◌};
+ghost use Rattle.std.specs.Prelude.{◌≡◌};
 ghost use Rattle.message.specs.Inner.Reading.{PlainTaken};
 
-use crate::StepRead;
-use crate::block::{ANY, BLOCK, block_at};
 use crate::codes::{byte_of, channel_by, light_by, operator_by};
+use crate::rows::{ANY, row};
 use lighting::Color;
-use number::{double_of, float_of, seed_of};
+use number::{Reader, Wrong, double_of, float_of, seed_of};
 use recipe::{Step, Work};
 use turbulence::Turbulence;
 
-// The bounds of each step's numbers.
-const MORPHOLOGY: [u32; BLOCK] = [ANY, ANY, 1, ANY, ANY, 0, 0, 0, 0, 0, 0, 0, 0, 0, 0, 0];
-
-const ARITHMETIC: [u32; BLOCK] = [ANY, ANY, ANY, ANY, ANY, ANY, ANY, 0, 0, 0, 0, 0, 0, 0, 0, 0];
-
-const DISPLACEMENT_MAP: [u32; BLOCK] = [ANY, ANY, ANY, 3, 3, ANY, ANY, ANY, 0, 0, 0, 0, 0, 0, 0, 0];
-
-const TURBULENCE: [u32; BLOCK] = [
-    ANY, ANY, ANY, ANY, ANY, ANY, ANY, ANY, ANY, ANY, ANY, ANY, ANY, ANY, ANY, 1,
-];
-
-const DIFFUSE_LIGHTING: [u32; BLOCK] = [
-    ANY, ANY, ANY, ANY, 255, 255, 255, 1, ANY, ANY, ANY, 0, 0, 0, 0, 0,
-];
-
-const SPECULAR_LIGHTING: [u32; BLOCK] = [
-    ANY, ANY, ANY, ANY, ANY, 255, 255, 255, 1, ANY, ANY, ANY, 0, 0, 0, 0,
-];
-
-pub fn morphology_at(message: &[u8], at: usize, used: usize) -> StepRead
-    requires { used ≤ at }
-    ensures { PlainTaken 1 message.now at used result }
+pub fn morphology(reader: &mut Reader) -> Result<Step, Wrong>
+    ensures same { reader.new.message ≡ reader.old.message }
+    ensures taken { PlainTaken 1 reader.old reader.new result }
 {
-    let block = block_at(message, at, MORPHOLOGY, 5);
-    let w = block.words;
-    let work = Work::Morphology(w[0], operator_by(w[2]), float_of(w[3]), float_of(w[4]));
-    let place = block.place;
-    StepRead {
-        step: Step { work, output: w[1] },
-        used,
-        place,
-    }
+    let [input, output, operator, rx, ry] = row(reader, [ANY, ANY, 1, ANY, ANY])?;
+    let work = Work::Morphology(input, operator_by(operator), float_of(rx), float_of(ry));
+    Ok(Step { work, output })
 }
 
-pub fn arithmetic_at(message: &[u8], at: usize, used: usize) -> StepRead
-    requires { used ≤ at }
-    ensures { PlainTaken 4 message.now at used result }
+pub fn arithmetic(reader: &mut Reader) -> Result<Step, Wrong>
+    ensures same { reader.new.message ≡ reader.old.message }
+    ensures taken { PlainTaken 4 reader.old reader.new result }
 {
-    let block = block_at(message, at, ARITHMETIC, 7);
-    let w = block.words;
+    let [first, second, output, k1, k2, k3, k4] = row(reader, [ANY; 7])?;
     let work = Work::Arithmetic(
-        w[0],
-        w[1],
-        float_of(w[3]),
-        float_of(w[4]),
-        float_of(w[5]),
-        float_of(w[6]),
+        first,
+        second,
+        float_of(k1),
+        float_of(k2),
+        float_of(k3),
+        float_of(k4),
     );
-    let place = block.place;
-    StepRead {
-        step: Step { work, output: w[2] },
-        used,
-        place,
-    }
+    Ok(Step { work, output })
 }
 
-pub fn displacement_map_at(message: &[u8], at: usize, used: usize) -> StepRead
-    requires { used ≤ at }
-    ensures { PlainTaken 6 message.now at used result }
+pub fn displacement_map(reader: &mut Reader) -> Result<Step, Wrong>
+    ensures same { reader.new.message ≡ reader.old.message }
+    ensures taken { PlainTaken 6 reader.old reader.new result }
 {
-    let block = block_at(message, at, DISPLACEMENT_MAP, 8);
-    let w = block.words;
+    let [input, map, output, x, y, sx, sy, scale] = row(
+        reader,
+        [ANY, ANY, ANY, 3, 3, ANY, ANY, ANY],
+    )?;
     let work = Work::DisplacementMap(
-        w[0],
-        w[1],
-        channel_by(w[3]),
-        channel_by(w[4]),
-        float_of(w[5]),
-        float_of(w[6]),
-        float_of(w[7]),
+        input,
+        map,
+        channel_by(x),
+        channel_by(y),
+        float_of(sx),
+        float_of(sy),
+        float_of(scale),
     );
-    let place = block.place;
-    StepRead {
-        step: Step { work, output: w[2] },
-        used,
-        place,
-    }
+    Ok(Step { work, output })
 }
 
-pub fn turbulence_at(message: &[u8], at: usize, used: usize) -> StepRead
-    requires { used ≤ at }
-    ensures { PlainTaken 7 message.now at used result }
+pub fn turbulence(reader: &mut Reader) -> Result<Step, Wrong>
+    ensures same { reader.new.message ≡ reader.old.message }
+    ensures taken { PlainTaken 7 reader.old reader.new result }
 {
-    let block = block_at(message, at, TURBULENCE, 16);
-    let w = block.words;
-    let t = Turbulence {
+    let w = row(
+        reader,
+        [
+            ANY, ANY, ANY, ANY, ANY, ANY, ANY, ANY, ANY, ANY, ANY, ANY, ANY, ANY, ANY, 1,
+        ],
+    )?;
+    let turbulence = Turbulence {
         offset_x: double_of(w[1], w[2]),
         offset_y: double_of(w[3], w[4]),
         sx: double_of(w[5], w[6]),
@@ -106,62 +75,76 @@ pub fn turbulence_at(message: &[u8], at: usize, used: usize) -> StepRead
         seed: seed_of(w[14]),
         fractal_noise: w[15] == 1,
     };
-    let place = block.place;
-    StepRead {
-        step: Step {
-            work: Work::Turbulence(t),
-            output: w[0],
-        },
-        used,
-        place,
-    }
+    Ok(Step {
+        work: Work::Turbulence(turbulence),
+        output: w[0],
+    })
 }
 
-pub fn diffuse_lighting_at(message: &[u8], at: usize, used: usize) -> StepRead
-    requires { used ≤ at }
-    ensures { PlainTaken 8 message.now at used result }
+pub fn diffuse_lighting(reader: &mut Reader) -> Result<Step, Wrong>
+    ensures same { reader.new.message ≡ reader.old.message }
+    ensures taken { PlainTaken 8 reader.old reader.new result }
 {
-    let block = block_at(message, at, DIFFUSE_LIGHTING, 11);
-    let w = block.words;
+    let [
+        input,
+        output,
+        scale,
+        constant,
+        red,
+        green,
+        blue,
+        kind,
+        x,
+        y,
+        z,
+    ] = row(
+        reader,
+        [ANY, ANY, ANY, ANY, 255, 255, 255, 1, ANY, ANY, ANY],
+    )?;
     let color = Color {
-        red: byte_of(w[4]),
-        green: byte_of(w[5]),
-        blue: byte_of(w[6]),
+        red: byte_of(red),
+        green: byte_of(green),
+        blue: byte_of(blue),
     };
-    let light = light_by(w[7], float_of(w[8]), float_of(w[9]), float_of(w[10]));
-    let work = Work::DiffuseLighting(w[0], light, float_of(w[2]), float_of(w[3]), color);
-    let place = block.place;
-    StepRead {
-        step: Step { work, output: w[1] },
-        used,
-        place,
-    }
+    let light = light_by(kind, float_of(x), float_of(y), float_of(z));
+    let work = Work::DiffuseLighting(input, light, float_of(scale), float_of(constant), color);
+    Ok(Step { work, output })
 }
 
-pub fn specular_lighting_at(message: &[u8], at: usize, used: usize) -> StepRead
-    requires { used ≤ at }
-    ensures { PlainTaken 9 message.now at used result }
+pub fn specular_lighting(reader: &mut Reader) -> Result<Step, Wrong>
+    ensures same { reader.new.message ≡ reader.old.message }
+    ensures taken { PlainTaken 9 reader.old reader.new result }
 {
-    let block = block_at(message, at, SPECULAR_LIGHTING, 12);
-    let w = block.words;
+    let [
+        input,
+        output,
+        scale,
+        constant,
+        exponent,
+        red,
+        green,
+        blue,
+        kind,
+        x,
+        y,
+        z,
+    ] = row(
+        reader,
+        [ANY, ANY, ANY, ANY, ANY, 255, 255, 255, 1, ANY, ANY, ANY],
+    )?;
     let color = Color {
-        red: byte_of(w[5]),
-        green: byte_of(w[6]),
-        blue: byte_of(w[7]),
+        red: byte_of(red),
+        green: byte_of(green),
+        blue: byte_of(blue),
     };
-    let light = light_by(w[8], float_of(w[9]), float_of(w[10]), float_of(w[11]));
+    let light = light_by(kind, float_of(x), float_of(y), float_of(z));
     let work = Work::SpecularLighting(
-        w[0],
+        input,
         light,
-        float_of(w[2]),
-        float_of(w[3]),
-        float_of(w[4]),
+        float_of(scale),
+        float_of(constant),
+        float_of(exponent),
         color,
     );
-    let place = block.place;
-    StepRead {
-        step: Step { work, output: w[1] },
-        used,
-        place,
-    }
+    Ok(Step { work, output })
 }

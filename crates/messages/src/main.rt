@@ -1,6 +1,7 @@
 // The examples of docs/MESSAGES.md, read and written again: its standard output is held to be their bytes.
 #![tactic(auto)]
 
+use recipe::{Recipe, STEP_LIMIT};
 use std::io;
 
 // The most numbers of an example, and the most bytes.
@@ -11,16 +12,15 @@ const ROOM: usize = 256;
 // Writes the recipe of a message as a message; of one that is refused, the message of no steps.
 fn again(rt: &impl Print, message: &[u8]) -> io::Result<()> {
     let mut pool = [0.0f32; POOL];
-    let reading = message::read(message, &mut pool);
-    let recipe = reading.recipe;
+    let nothing = Recipe {
+        steps: [message::blank(); STEP_LIMIT],
+        count: 0,
+    };
+    let recipe = message::read(message, &mut pool).unwrap_or(nothing);
     let mut out = [7u8; ROOM];
-    let writing = message::write(recipe, &pool, &mut out);
-    show(rt, &out, writing.length)
-}
-
-fn show(rt: &impl Print, out: &[u8], n: usize) -> io::Result<()> {
-    if n <= out.len() {
-        rt.write_all(&out[..n])?;
+    let length = message::write(recipe, &pool, &mut out).unwrap_or(0);
+    if let Some(bytes) = out.get(..length) {
+        rt.write_all(bytes)?;
     }
     Ok(())
 }

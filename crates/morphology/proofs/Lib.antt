@@ -1,3 +1,4 @@
+pub mod Numbered
 pub mod Windows
 pub mod Reading
 mod Signed

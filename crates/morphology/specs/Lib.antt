@@ -1,3 +1,4 @@
+pub mod Numbered
 pub mod Extremum
 pub mod Morphology
 pub mod Reads

@@ -4,9 +4,7 @@ use Rattle.std.specs.Float.Ieee.Scale.{finite}
 use Rattle.floats.specs.Constants.{c0, c65536}
 use Rattle.floats.specs.Order.{within}
 use Rattle.floats.specs.Round.{round_to}
-use Rattle.sheet.specs.declared.Answer.{Answer}
-use Rattle.sheet.specs.declared.Answer.TheVariants.{Done}
-use Rattle.sheet.specs.Answer.{refusal, and_then}
+use Rattle.sheet.specs.Answer.{Answer, Done, refusal, and_then}
 use Rattle.sheet.specs.Size.{sheets_answer}
 use Rattle.sheet.specs.Tabulate.{tabulate}
 use Rattle.sheet.specs.Pixel.{column, row, byte_at}

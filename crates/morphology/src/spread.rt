@@ -5,7 +5,7 @@ ghost use Rattle.sheet.specs.Tabulate.{zeros};
 ghost use Rattle.morphology.specs.Morphology.{spread_over};
 ghost use Rattle.morphology.specs.Inner.Lines.{Merged, Lines, Spread, Rows};
 
-use crate::operator::{MorphologyOperator, more_extreme};
+use crate::operator::MorphologyOperator;
 
 // Each of n bytes of `into`, from `at` on, becomes the more extreme of itself and the byte of `from` as far past `other`.
 fn merge(
@@ -20,10 +20,8 @@ fn merge(
     requires n_in_bounds_2 { at + n ≤ length into.old }
     ensures { Merged operator from.now other into.old at n into.new }
 {
-    let mut i = 0;
-    while i < n {
-        into[at + i] = more_extreme(operator, into[at + i], from[other + i]);
-        i += 1;
+    for i in 0..n {
+        into[at + i] = operator.more_extreme(into[at + i], from[other + i]);
     }
 }
 
@@ -42,14 +40,11 @@ pub fn spread(
     ensures { Spread operator radius step count first from.now into.old into.new }
 {
     let total = step * count;
-    let mut reached = 0;
-    while reached < radius {
-        let next = reached + 1;
-        let shift = step * next;
+    for reached in 0..radius {
+        let shift = step * (reached + 1);
         let n = total - shift;
         merge(operator, from, first + shift, into, first, n);
         merge(operator, from, first, into, first + shift, n);
-        reached = next;
     }
 }
 
@@ -68,10 +63,8 @@ fn spread_rows(
     ensures { Rows operator radius width height height src.now scratch.new }
 {
     let line = 4 * width;
-    let mut y = 0;
-    while y < height {
+    for y in 0..height {
         spread(operator, radius, 4, width, line * y, src, scratch);
-        y += 1;
     }
 }
 

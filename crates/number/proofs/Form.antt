@@ -4,8 +4,8 @@ use mathlib.Core.Path.{◌≡◌, refl, sym, ap, ◌∙◌}
 use mathlib.Core.List.{List, [], ◌∷◌, ◌++◌, append_assoc, append-nil}
 use native.Mathlib.Omega.{arith}
 use lib.ListN.{length, drop, drop_of_length-le}
-use Rattle.number.specs.declared.Number.{Number}
-use Rattle.number.specs.declared.Number.TheVariants.{Value, Wrong}
+use Rattle.std.specs.Prelude.{Result, Ok, Err}
+use Rattle.number.specs.declared.Wrong.{Wrong}
 use Rattle.number.specs.Number.{number_bytes, number_at}
 use Rattle.number.specs.Words.{Words, word, stop, on_number, words_from, words_at, bytes_of}
 use Rattle.number.proofs.Numbers.{Bytes}
@@ -27,16 +27,18 @@ pub record Reads (s : List ℕ) (at : ℕ) (ws : Words) : Type 0 where
   pub form : drop at s ≡ bytes_of (plain ws) ++ drop (end_of ws) s
   pub small : Small (plain ws)
 
-reads_on : (s : List ℕ) (u : Bytes s) (at : ℕ) (rest : ℕ → Words) → ((end : ℕ) → Reads s end (rest end)) → (m : Number) → number_at s at ≡ m → Reads s at (on_number at rest m)
+reads_on : (s : List ℕ) (u : Bytes s) (at : ℕ) (rest : ℕ → Words) → ((end : ℕ) → Reads s end (rest end)) → (m : Result (ℕ × ℕ) Wrong) → number_at s at ≡ m → Reads s at (on_number at rest m)
 unfolding plain end_of bytes_of
-reads_on s u at rest i (Value n end) e =
+reads_on s u at rest i (Ok v) e =
+    let n = v.0 in
+    let end = v.1 in
     let w = number_form s u at n end e in
     let r = i end in
     record {
       form = w.form ∙ (ap (λ (l : List ℕ). number_bytes n ++ l) r.form ∙ sym (append_assoc (number_bytes n) (bytes_of (plain (rest end))) (drop (end_of (rest end)) s)));
       small = (w.small, r.small);
     }
-reads_on s u at rest i (Wrong p) e = record { form = rw (wrong_at s at p (sym e)); small = tt }
+reads_on s u at rest i (Err w) e = record { form = rw (wrong_at s at w (sym e)); small = tt }
 
 reads_from : (most : ℕ) (s : List ℕ) → Bytes s → (at : ℕ) → Reads s at (words_from most s at)
 unfolding words_from plain end_of bytes_of

@@ -1,59 +1,58 @@
 -- What the code meets at a place: the end, a last group, a group with others above it.
 use Prim.Native.Nat.{ℕ, zero, suc, ◌+◌, ◌-◌, ◌*◌, ◌/◌, ◌%◌, ◌≤◌, ◌<◌}
-use mathlib.Core.Path.{◌≡◌, refl, sym, ap, ◌∙◌}
+use mathlib.Core.Path.{◌≡◌, refl, ap, ◌∙◌}
 use mathlib.Core.Bool.{Bool, true, false, cond}
 use mathlib.Core.List.{List, [], ◌∷◌}
 use native.Mathlib.Omega.{arith}
 use native.Mathlib.Numerals.{add-one}
-use borrow.Author.Tests.{eqb-false, eq-eqb, ne_eqb, lt-ltb, le-ltb}
+use borrow.Author.Tests.{eq-eqb, ne_eqb, lt-ltb, le-ltb}
 use lib.Dec.{eqb, ltb}
 use lib.ListN.{length, drop, get_or, set, drop_of_length-le}
 use lib.Seq.{drop-cons, get_or-drop, length-sets}
-use types.Run.{OneOf}
-use denote.Enum.Declared.{tag_of}
-use Rattle.number.specs.declared.Number.{Number}
-use Rattle.number.specs.declared.Number.TheVariants.{Value, Wrong}
+use Rattle.std.specs.Prelude.{Result, Ok, Err}
+use Rattle.number.specs.declared.Wrong.{Wrong}
 use Rattle.number.specs.Number.{groups, number_bytes, Found, found, none, below, groups_in, placed, groups_at, Put}
 use Rattle.number.specs.Inner.Limit.{limit}
-use Rattle.number.specs.contracts.Number.{the_type}
 use Rattle.number.proofs.Numbers.{Bytes, written}
 
-pub no_value : {A : Type 0} {n e p : ℕ} → Wrong p ≡ Value n e → A
-no_value e = let z : ◌≡◌ {A = ℕ} 0 1 = cc in absurd (eqb-false 0 1 refl z)
+pub no_value : {A : Type 0} {v : ℕ × ℕ} {w : Wrong} → ◌≡◌ {A = Result (ℕ × ℕ) Wrong} (Err w) (Ok v) → A
+no_value e = let z : ⊥ = cc in absurd z
+
+-- a number and its place, of one result
+pub same_value : {n end m last : ℕ} → ◌≡◌ {A = Result (ℕ × ℕ) Wrong} (Ok (n, end)) (Ok (m, last)) → (n ≡ m) × (end ≡ last)
+same_value {n} {end} {m} {last} e =
+    let p : ◌≡◌ {A = ℕ × ℕ} (n, end) (m, last) = cc in
+    (ap (λ (v : ℕ × ℕ). v.0) p, ap (λ (v : ℕ × ℕ). v.1) p)
 
 -- ---- reading
 -- a group with others above it, in places
-abbrev below_at : ℕ → ℕ → Number → Number
-below_at at low (Value n end) = cond (eqb n 0) (Wrong at) (Value (low + 128 * n) end)
-below_at at low (Wrong p) = Wrong at
+abbrev below_at : ℕ → ℕ → Result (ℕ × ℕ) Wrong → Result (ℕ × ℕ) Wrong
+below_at at low (Ok v) = cond (eqb v.0 0) (Err (record { at = at })) (Ok (low + 128 * v.0, v.1))
+below_at at low (Err w) = Err (record { at = at })
 
 below_placed : (at low : ℕ) (f : Found) → placed at (below low f) ≡ below_at at low (placed (at + 1) f)
 below_placed at low none = refl
 below_placed at low (found n k) = by (eqb n 0)
   where
-    by : (t : Bool) → placed at (cond t none (found (low + 128 * n) (suc k))) ≡ cond t (Wrong at) (Value (low + 128 * n) (at + 1 + k))
+    by : (t : Bool) → placed at (cond t none (found (low + 128 * n) (suc k))) ≡ cond t (Err (record { at = at })) (Ok (low + 128 * n, at + 1 + k))
     by true = refl
     by false = let z : at + suc k ≡ at + 1 + k = omega arith in rw z
 
-not_value : (t : Number) → OneOf (1 ∷ []) (tag_of the_type t) → (at low : ℕ) → Wrong at ≡ below_at at low t
-not_value (Value n e) h at low = absurd (eqb-false 0 1 refl h)
-not_value (Wrong p) h at low = refl
-
 module _ (s : List ℕ) (at more : ℕ) where
-  pub at_end : length s ≤ at → Wrong at ≡ groups_at more s at
+  pub at_end : length s ≤ at → Err (record { at = at }) ≡ groups_at more s at
   unfolding groups_at groups_in
   at_end h = rw (drop_of_length-le s h)
 
   module _ (h : at < length s) (b : ℕ) (e : b ≡ get_or s at 0) where
-    pub last_value : more ≡ 0 → b < 16 → Value b (at + 1) ≡ groups_at more s at
+    pub last_value : more ≡ 0 → b < 16 → Ok (b, at + 1) ≡ groups_at more s at
     unfolding groups_at groups_in
     last_value z l = rw (z, drop-cons s at 0 h, ← e, lt-ltb b 16 l)
 
-    pub last_wrong : more ≡ 0 → 16 ≤ b → Wrong at ≡ groups_at more s at
+    pub last_wrong : more ≡ 0 → 16 ≤ b → Err (record { at = at }) ≡ groups_at more s at
     unfolding groups_at groups_in
     last_wrong z l = rw (z, drop-cons s at 0 h, ← e, le-ltb b 16 l)
 
-    pub one_value : (more ≡ 0 → ⊥) → b < 128 → Value b (at + 1) ≡ groups_at more s at
+    pub one_value : (more ≡ 0 → ⊥) → b < 128 → Ok (b, at + 1) ≡ groups_at more s at
     unfolding groups_at groups_in
     one_value z l =
         let y : more ≡ suc (more - 1) = omega arith in
@@ -66,15 +65,16 @@ module _ (s : List ℕ) (at more : ℕ) where
         let x : at + 1 ≡ suc at = add-one at in
         ap (λ (m : ℕ). placed at (groups_in m (drop at s))) y ∙ rw (drop-cons s at 0 h, ← e, le-ltb b 128 l) (below_placed at (b - 128) (groups_in (more - 1) (drop (suc at) s)) ∙ rw x)
 
-    pub above_wrong : (more ≡ 0 → ⊥) → 128 ≤ b → (t : Number) → t ≡ groups_at (more - 1) s (at + 1) → OneOf (1 ∷ []) (tag_of the_type t) → Wrong at ≡ groups_at more s at
-    above_wrong z l t i o = rw (above z l, ← i) (not_value t o at (b - 128))
+    module _ (z : more ≡ 0 → ⊥) (l : 128 ≤ b) where
+      pub above_wrong : (w : Wrong) → groups_at (more - 1) s (at + 1) ≡ Err w → Err (record { at = at }) ≡ groups_at more s at
+      above_wrong w i = rw (above z l, i)
 
-    module _ (z : more ≡ 0 → ⊥) (l : 128 ≤ b) (n end : ℕ) (i : Value n end ≡ groups_at (more - 1) s (at + 1)) where
-      pub above_zero : n ≡ 0 → Wrong at ≡ groups_at more s at
-      above_zero o = rw (above z l, ← i, eq-eqb n 0 o)
+      module _ (n end : ℕ) (i : groups_at (more - 1) s (at + 1) ≡ Ok (n, end)) where
+        pub above_zero : n ≡ 0 → Err (record { at = at }) ≡ groups_at more s at
+        above_zero o = rw (above z l, i, eq-eqb n 0 o)
 
-      pub above_value : (n ≡ 0 → ⊥) → Value (b - 128 + 128 * n) end ≡ groups_at more s at
-      above_value o = rw (above z l, ← i, ne_eqb n 0 o)
+        pub above_value : (n ≡ 0 → ⊥) → Ok (b - 128 + 128 * n, end) ≡ groups_at more s at
+        above_value o = rw (above z l, i, ne_eqb n 0 o)
 
 limit_mono : (m : ℕ) → m ≤ 3 → limit m ≤ 33554432
 limit_mono zero h = omega arith
@@ -83,11 +83,11 @@ limit_mono (suc (suc zero)) h = omega arith
 limit_mono (suc (suc (suc zero))) h = omega arith
 limit_mono (suc (suc (suc (suc m)))) h = absurd (omega arith)
 
-value_of : (more : ℕ) (l : List ℕ) → Bytes l → (at n end : ℕ) (f : Found) → groups_in more l ≡ f → Value n end ≡ placed at f → n < limit more
-value_of more l u at n end none g e = no_value (sym e)
-value_of more l u at n end (found m k) g e = let y : n ≡ m = cc in rw y (written more l u m k g).small
+value_of : (more : ℕ) (l : List ℕ) → Bytes l → (at n end : ℕ) (f : Found) → groups_in more l ≡ f → placed at f ≡ Ok (n, end) → n < limit more
+value_of more l u at n end none g e = no_value e
+value_of more l u at n end (found m k) g e = rw (← (same_value e).0) (written more l u m k g).small
 
-pub small_number : (s : List ℕ) → Bytes s → (at more n end : ℕ) → more ≤ 3 → Value n end ≡ groups_at more s at → n < 33554432
+pub small_number : (s : List ℕ) → Bytes s → (at more n end : ℕ) → more ≤ 3 → groups_at more s at ≡ Ok (n, end) → n < 33554432
 unfolding groups_at
 small_number s u at more n end h e =
     let z = value_of more (drop at s) (λ i. rw get_or-drop (u (at + i))) at n end (groups_in more (drop at s)) refl e in

@@ -4,18 +4,14 @@ use mathlib.Core.Path.{◌≡◌, refl, sym, ap, ◌∙◌}
 use mathlib.Core.List.{List, [], ◌∷◌, ◌++◌}
 use native.Mathlib.Omega.{arith}
 use lib.ListN.{length, drop, length-append, drop_of_length-le}
-use borrow.Author.Tests.{eqb-false}
 use lib.Dec.{eqb, ltb}
 use mathlib.Core.Bool.{Bool, true, false, cond}
-use types.Run.{OneOf}
-use denote.Enum.Declared.{tag_of}
-use Rattle.number.specs.contracts.Number.{the_type}
-use Rattle.number.specs.declared.Number.{Number}
+use Rattle.std.specs.Prelude.{Result, Ok, Err}
+use Rattle.number.specs.declared.Wrong.{Wrong}
 use lib.Seq.{drop-drop, drop-append_seam}
 use Rattle.number.specs.Number.{number_bytes, groups_in, groups_at, number_at, Found, found, none, below, placed}
-use Rattle.number.specs.declared.Number.TheVariants.{Value, Wrong}
 use Rattle.number.proofs.Numbers.{not_found}
-use Rattle.number.proofs.Places.{no_value, groups_some}
+use Rattle.number.proofs.Places.{no_value, same_value, groups_some}
 use Rattle.number.proofs.ReadBack.{number_back}
 use Rattle.number.specs.Words.{Words, word, stop, on_number, words_from, words_at, place_of, bytes_of, laid}
 
@@ -44,7 +40,7 @@ after_length [] p = omega arith
 after_length (n ∷ l) p = after_length l (p + length (number_bytes n)) ∙ simp length-append (omega arith)
 
 -- ---- numbers that are written are those that are read
-no_more : (s : List ℕ) (at : ℕ) → drop at s ≡ [] → number_at s at ≡ Wrong at
+no_more : (s : List ℕ) (at : ℕ) → drop at s ≡ [] → number_at s at ≡ Err (record { at = at })
 unfolding groups_at groups_in
 no_more s at e = rw e
 
@@ -88,26 +84,26 @@ longer (suc more) (b ∷ l) n k e = by (ltb b 128) (groups_in more l) e
     by false none g = not_found g
     by false (found m j) g = above (eqb m 0) _ j g
 
-pub further : (s : List ℕ) (at n end : ℕ) → number_at s at ≡ Value n end → at < end
+pub further : (s : List ℕ) (at n end : ℕ) → number_at s at ≡ Ok (n, end) → at < end
 unfolding groups_at
 further s at n end e = by (groups_in 4 (drop at s)) refl e
   where
-    by : (f : Found) → groups_in 4 (drop at s) ≡ f → placed at f ≡ Value n end → at < end
+    by : (f : Found) → groups_in 4 (drop at s) ≡ f → placed at f ≡ Ok (n, end) → at < end
     by none g h = no_value h
-    by (found m k) g h = let z = longer 4 (drop at s) m k g in let y : at + k ≡ end = cc in omega arith
+    by (found m k) g h = let z = longer 4 (drop at s) m k g in let y = (same_value h).1 in omega arith
 
-wrong_place : (at : ℕ) (f : Found) (p : ℕ) → Wrong p ≡ placed at f → p ≡ at
-wrong_place at none p e = cc
-wrong_place at (found n k) p e = no_value e
+wrong_place : (at : ℕ) (f : Found) (w : Wrong) → Err w ≡ placed at f → w.at ≡ at
+wrong_place at none w e = let z : w ≡ record { at = at } = cc in ap (λ (x : Wrong). x.at) z
+wrong_place at (found n k) w e = no_value e
 
-pub wrong_at : (s : List ℕ) (at p : ℕ) → Wrong p ≡ number_at s at → p ≡ at
+pub wrong_at : (s : List ℕ) (at : ℕ) (w : Wrong) → Err w ≡ number_at s at → w.at ≡ at
 unfolding groups_at
-wrong_at s at p e = wrong_place at (groups_in 4 (drop at s)) p e
+wrong_at s at w e = wrong_place at (groups_in 4 (drop at s)) w e
 
 same_next :
-    (s : List ℕ) (f g : ℕ → Words) (at : ℕ) (m : Number) → number_at s at ≡ m → ((q : ℕ) → at < q → f q ≡ g q) → on_number at f m ≡ on_number at g m
-same_next s f g at (Value n next) e h = ap (word at n) (h next (further s at n next e))
-same_next s f g at (Wrong p) e h = refl
+    (s : List ℕ) (f g : ℕ → Words) (at : ℕ) (m : Result (ℕ × ℕ) Wrong) → number_at s at ≡ m → ((q : ℕ) → at < q → f q ≡ g q) → on_number at f m ≡ on_number at g m
+same_next s f g at (Ok v) e h = ap (word at v.0) (h v.1 (further s at v.0 v.1 e))
+same_next s f g at (Err w) e h = refl
 
 -- more numbers than there are bytes say no more
 enough : (f g : ℕ) (s : List ℕ) (at : ℕ) → length s ≤ at + f → length s ≤ at + g → words_from f s at ≡ words_from g s at
@@ -122,26 +118,23 @@ unfolding words_from words_at
 words_step s at = enough (length s) (suc (length s)) s at (omega arith) (omega arith)
 
 module _ (s : List ℕ) (at : ℕ) where
-  pub word_here : (n end : ℕ) → Value n end ≡ number_at s at → words_at s at ≡ word at n (words_at s end)
-  word_here n end e = words_step s at ∙ rw (← e)
+  pub word_here : (n end : ℕ) → number_at s at ≡ Ok (n, end) → words_at s at ≡ word at n (words_at s end)
+  word_here n end e = words_step s at ∙ rw e
 
-  stops : (t : Number) → t ≡ number_at s at → OneOf (1 ∷ []) (tag_of the_type t) → on_number at (words_at s) t ≡ stop at
-  stops (Value n end) e h = absurd (eqb-false 0 1 refl h)
-  stops (Wrong p) e h = ap stop (wrong_at s at p e)
+  pub stop_here : (w : Wrong) → number_at s at ≡ Err w → words_at s at ≡ stop at
+  stop_here w e = words_step s at ∙ (rw e (ap stop (wrong_at s at w (sym e))))
 
-  pub stop_here : (t : Number) → t ≡ number_at s at → OneOf (1 ∷ []) (tag_of the_type t) → words_at s at ≡ stop at
-  stop_here t e h = words_step s at ∙ (rw (← e) (stops t e h))
+  module _ {t : Result (ℕ × ℕ) Wrong} (e : t ≡ number_at s at) where
+    -- where `read_number(message, at)` is `Ok((n, end))`
+    pub here : {n end : ℕ} → t ≡ Ok (n, end) → words_at s at ≡ word at n (words_at s end)
+    here {n} {end} f = word_here n end (sym e ∙ f)
 
-  -- after `let Number::Value(n, end) = read_number(message, at)`
-  pub here : {t : Number} {n end : ℕ} → t ≡ number_at s at → t ≡ Value n end → words_at s at ≡ word at n (words_at s end)
-  here {t} {n} {end} e f = word_here n end (sym f ∙ e)
+    pub on : {n end : ℕ} → t ≡ Ok (n, end) → at < end
+    on {n} {end} f = further s at n end (sym e ∙ f)
 
-  pub on : {t : Number} {n end : ℕ} → t ≡ number_at s at → t ≡ Value n end → at < end
-  on {t} {n} {end} e f = further s at n end (sym e ∙ f)
-
-  -- at its `else`
-  pub nothing : {t : Number} → t ≡ number_at s at → OneOf (1 ∷ []) (tag_of the_type t) → words_at s at ≡ stop at
-  nothing {t} e h = stop_here t e h
+    -- where it is `Err(w)`
+    pub nothing : {w : Wrong} → t ≡ Err w → words_at s at ≡ stop at
+    nothing {w} f = stop_here w (sym e ∙ f)
 
   place_on : (f : Found) → place_of (on_number at (words_at s) (placed at f)) ≡ at
   place_on none = refl
@@ -155,9 +148,9 @@ module _ (s : List ℕ) (at : ℕ) where
 abbrev pub IsAt : List ℕ → Words → Type 0
 IsAt s ws = ws ≡ words_at s (place_of ws)
 
-tail_on : (s : List ℕ) (p n : ℕ) (ws : Words) (m : Number) → word p n ws ≡ on_number p (words_at s) m → IsAt s ws
-tail_on s p n ws (Value k end) e = let x : ws ≡ words_at s end = cc in x ∙ sym (ap (words_at s) (ap place_of x ∙ place_of_lem s end))
-tail_on s p n ws (Wrong q) e = let z : ◌≡◌ {A = ℕ} 0 1 = cc in absurd (eqb-false 0 1 refl z)
+tail_on : (s : List ℕ) (p n : ℕ) (ws : Words) (m : Result (ℕ × ℕ) Wrong) → word p n ws ≡ on_number p (words_at s) m → IsAt s ws
+tail_on s p n ws (Ok v) e = let x : ws ≡ words_at s v.1 = cc in x ∙ sym (ap (words_at s) (ap place_of x ∙ place_of_lem s v.1))
+tail_on s p n ws (Err w) e = let z : ⊥ = cc in absurd z
 
 pub tail_at : (s : List ℕ) (p n : ℕ) (ws : Words) → IsAt s (word p n ws) → IsAt s ws
 tail_at s p n ws h = tail_on s p n ws (number_at s p) (h ∙ words_step s p)

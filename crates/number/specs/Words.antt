@@ -1,7 +1,6 @@
 -- The numbers of a message, each with its place.
-use Rattle.std.specs.Prelude.{ℕ, zero, suc, ◌+◌, List, [], ◌∷◌, ◌++◌, length}
-use Rattle.number.specs.declared.Number.{Number}
-use Rattle.number.specs.declared.Number.TheVariants.{Value, Wrong}
+use Rattle.std.specs.Prelude.{ℕ, zero, suc, ◌+◌, Result, Ok, Err, List, [], ◌∷◌, ◌++◌, length}
+use Rattle.number.specs.declared.Wrong.{Wrong}
 use Rattle.number.specs.Number.{number_bytes, number_at}
 
 -- numbers with their places, then the place where no number begins
@@ -10,9 +9,9 @@ pub data Words : Type 0 where
   stop : ℕ → Words
 
 -- the number at a place, and the numbers after it
-abbrev pub on_number : ℕ → (ℕ → Words) → Number → Words
-on_number at rest (Value n next) = word at n (rest next)
-on_number at rest (Wrong p) = stop p
+abbrev pub on_number : ℕ → (ℕ → Words) → Result (ℕ × ℕ) Wrong → Words
+on_number at rest (Ok v) = word at v.0 (rest v.1)
+on_number at rest (Err w) = stop w.at
 
 -- the numbers from `at` on, so many at most
 unfoldable pub words_from : ℕ → List ℕ → ℕ → Words

@@ -3,51 +3,38 @@ ghost use Rattle.std.specs.Prelude.{◌≡◌, ◌+◌, ◌≤◌, ◌<◌, set}
 ghost use Rattle.number.specs.Number.{groups, groups_at, Put};
 ghost use Rattle.number.specs.Inner.Limit.{limit};
 
-use crate::Number;
+use crate::Wrong;
 
-fn wide(byte: u8) -> u32
-    ensures { (result ≡ byte) × (result ≤ 255) }
-{
-    byte as u32
-}
-
-// The number at `at`, of at most `more` groups beside the first.
-pub fn groups_at(message: &[u8], at: usize, more: usize) -> Number
+// The number at `at`, of at most `more` groups beside the first, and the place after it.
+pub fn groups_at(message: &[u8], at: usize, more: usize) -> Result<(u32, usize), Wrong>
     requires { more ≤ 4 }
     ensures { result ≡ groups_at more message.now at }
 {
     if message.len() <= at {
-        return Number::Wrong(at);
+        return Err(Wrong { at });
     }
-    let byte = wide(message[at]);
+    let byte = u32::from(message[at]);
     let next = at + 1;
     if more == 0 {
         if byte < 16 {
-            return Number::Value(byte, next);
+            return Ok((byte, next));
         }
-        return Number::Wrong(at);
+        return Err(Wrong { at });
     }
     if byte < 128 {
-        return Number::Value(byte, next);
+        return Ok((byte, next));
     }
     match groups_at(message, next, more - 1) {
-        Number::Wrong(_) => Number::Wrong(at),
-        Number::Value(n, end) => {
+        Err(_) => Err(Wrong { at }),
+        Ok((n, end)) => {
             // A highest group of 0 is not the shortest form.
             if n == 0 {
-                Number::Wrong(at)
+                Err(Wrong { at })
             } else {
-                Number::Value(byte - 128 + 128 * n, end)
+                Ok((byte - 128 + 128 * n, end))
             }
         }
     }
-}
-
-fn narrow(n: u32) -> u8
-    requires { n < 256 }
-    ensures { result ≡ n }
-{
-    n as u8
 }
 
 // Stores the byte at i, if there is such a place.
@@ -67,9 +54,9 @@ pub fn put_groups(out: &mut [u8], at: usize, more: usize, n: u32) -> usize
 {
     let next = at + 1;
     if n < 128 {
-        put_byte(out, at, narrow(n));
+        put_byte(out, at, n as u8);
         return next;
     }
-    put_byte(out, at, narrow(128 + n % 128));
+    put_byte(out, at, (128 + n % 128) as u8);
     put_groups(out, next, more - 1, n / 128)
 }

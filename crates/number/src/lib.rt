@@ -8,19 +8,27 @@ mod values;
 ghost use Rattle.std.specs.Prelude.{◌≡◌, ◌+◌, ◌≤◌};
 ghost use Rattle.number.specs.Number.{number_at, number_bytes, Put};
 
+pub use reader::Reader;
+use std::error::Error;
+use std::fmt;
 pub use values::{bits_of, bits_of_seed, double_of, float_of, high_half, low_half, seed_of};
 
-// What stands at a place of a message.
-#[derive(Clone, Copy)]
-pub enum Number {
-    // A number, and the place after it.
-    Value(u32, usize),
-    // No number, at the place where it should begin.
-    Wrong(usize),
+// No number begins at this place of a message.
+#[derive(Clone, Copy, Debug, PartialEq, Eq)]
+pub struct Wrong {
+    pub at: usize,
 }
 
-// The number at `at`.
-pub fn read_number(message: &[u8], at: usize) -> Number
+impl fmt::Display for Wrong {
+    fn fmt<W: fmt::Write>(&self, f: &mut fmt::Formatter<W>) -> fmt::Result {
+        write!(f, "no number at offset {}", self.at)
+    }
+}
+
+impl Error for Wrong {}
+
+// The number at `at`, and the place after it.
+pub fn read_number(message: &[u8], at: usize) -> Result<(u32, usize), Wrong>
     ensures { result ≡ number_at message.now at }
 {
     groups::groups_at(message, at, 4)

@@ -3,31 +3,25 @@ use Prim.Native.Nat.{ℕ}
 use mathlib.Core.Path.{◌≡◌, refl, sym, ◌∙◌}
 use mathlib.Core.List.{List, [], ◌∷◌}
 use borrow.Author.Tests.{eqb-true}
-use types.Run.{OneOf}
-use denote.Enum.Declared.{tag_of}
-use Rattle.sheet.specs.declared.Answer.{Answer}
-use Rattle.sheet.specs.Answer.{IsRefusal}
-use Rattle.sheet.specs.declared.Answer.TheVariants.{Done}
+use Rattle.sheet.specs.Answer.{Answer, Done, IsRefusal, on_done}
 use Rattle.sheet.specs.Size.{lengths_answer}
 use Rattle.sheet.specs.Contract.{Lent, was, became, Holds, Filtered}
-use Rattle.sheet.specs.contracts.Answer.{the_type}
-use Rattle.sheet.proofs.Answers.{refusing, cond_done}
-use Rattle.sheet.proofs.Contracts.{holds_refused, holds_done, holds_settled}
+use Rattle.sheet.proofs.Answers.{cond_done}
+use Rattle.std.specs.Prelude.{Ok, Err}
+use Rattle.sheet.proofs.Contracts.{holds_settled}
 use Rattle.nuprikhen.specs.declared.nup_answer.{nup_answer}
 use Rattle.nuprikhen.specs.Called.{Told, Called}
 
 told_as : {answer r : Answer} {c : nup_answer} → r ≡ answer → Told r c → Told answer c
 told_as {answer} {r} {c} e t = rw e at t
 
-module _ {A : Type 0} {answer r : Answer} {c : nup_answer} {new : List A} {lent : Lent A} (e : r ≡ answer) (t : Told r c) where
-  pub called_refused : IsRefusal r → became lent ≡ was lent → Called answer c new lent
-  called_refused h k = record { told = told_as e t; held = holds_refused e h k }
-
-  pub called_tested : OneOf (1 ∷ []) (tag_of the_type r) → became lent ≡ was lent → Called answer c new lent
-  called_tested o k = called_refused (refusing r o) k
-
-  pub called_done : r ≡ Done → became lent ≡ new → Called answer c new lent
-  called_done d k = record { told = told_as e t; held = holds_done (sym e ∙ d) k }
+-- what a slice holds after a refusal, and after Done
+pub called_by : {A : Type 0} {answer : Answer} (r : Answer) {c : nup_answer} {new : List A} {lent : Lent A} → r ≡ answer → Told r c → (IsRefusal r → became lent ≡ was lent) → (r ≡ Done → became lent ≡ new) → Called answer c new lent
+called_by r {new = new} {lent = lent} e t k d = record { told = told_as e t; held = record { elements = rw e at (by r k d) } }
+  where
+    by : (a : Answer) → (IsRefusal a → became lent ≡ was lent) → (a ≡ Done → became lent ≡ new) → became lent ≡ on_done a new (was lent)
+    by (Ok _) k d = d refl
+    by (Err u) k d = k tt
 
 -- what a callee's contract says of a slice that is lent on; `s` is the slice as the callee saw it
 module _ {A : Type 0} {answer : Answer} {new : List A} {s lent : Lent A} (w : was s ≡ was lent) (l : became s ≡ became lent) where

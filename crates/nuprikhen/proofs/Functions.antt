@@ -8,9 +8,7 @@ use borrow.Author.Tests.{eq-eqb, ne_eqb}
 use lib.Dec.{eqb}
 use lib.Ieee.{Float}
 use lib.ListN.{length}
-use Rattle.sheet.specs.declared.Answer.{Answer}
-use Rattle.sheet.specs.declared.Answer.TheVariants.{Done}
-use Rattle.sheet.specs.Answer.{refusal}
+use Rattle.sheet.specs.Answer.{Answer, Done, refusal}
 use Rattle.sheet.proofs.Answers.{cond_done}
 use Rattle.component_transfer.specs.declared.TransferFunction.{TransferFunction}
 use Rattle.component_transfer.specs.ComponentTransfer.{function_answer, functions_answer, transfer, answer, transferred}
@@ -18,12 +16,6 @@ use Rattle.component_transfer.proofs.Passed.{each_passes}
 use Rattle.nuprikhen.specs.Numbers.{linear_of, function_of, numbered_answer}
 
 module _ (values : List Float) where
-  pub from_three : (kind : ℕ) → (kind ≡ 0 → ⊥) → (kind ≡ 1 → ⊥) → (kind ≡ 2 → ⊥) → linear_of values ≡ function_of kind values
-  from_three zero a b c = absurd (a refl)
-  from_three (suc zero) a b c = absurd (b refl)
-  from_three (suc (suc zero)) a b c = absurd (c refl)
-  from_three (suc (suc (suc n))) a b c = refl
-
   -- ---- the tests
   pub below_three : (kind : ℕ) → kind < 3 → function_answer (function_of kind values) values ≡ numbered_answer kind values
   below_three zero h = refl

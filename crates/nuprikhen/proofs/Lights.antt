@@ -1,19 +1,12 @@
 -- The laws of a light's number: one that names no light is refused 4 where another number is not finite, and else 5, whatever x, y and z are.
-use Prim.Native.Nat.{ℕ, zero, suc}
+use Prim.Native.Nat.{ℕ, suc}
 use mathlib.Core.Path.{◌≡◌, refl}
 use mathlib.Core.Bool.{false, cond}
 use lib.Ieee.{Float, of_bits}
 use lib.Ieee.Scale.{finite}
-use Rattle.floats.specs.Constants.{c0}
 use Rattle.floats.specs.Unit.{unit_triple}
-use Rattle.lighting.specs.declared.light.LightSource.TheVariants.{Distant}
 use Rattle.lighting.specs.Lighting.{tested, finite_numbers, numbers_in_range, diffuse_answer, specular_answer}
 use Rattle.nuprikhen.specs.Lights.{light_of}
-
-pub no_light : (n : ℕ) (x y z : Float) → (n ≡ 0 → ⊥) → (n ≡ 1 → ⊥) → Distant c0 c0 c0 ≡ light_of n x y z
-no_light zero x y z a b = absurd (a refl)
-no_light (suc zero) x y z a b = absurd (b refl)
-no_light (suc (suc n)) x y z a b = refl
 
 module _ (n : ℕ) (x y z scale constant : Float) where
   pub unnamed_diffuse : diffuse_answer (light_of (suc (suc n)) x y z) scale constant ≡ tested (cond (finite scale) (finite constant) false) false

@@ -1,53 +1,48 @@
--- A C function that stores f of each element of a slice in order: a record for its loop's invariant, with the laws of its start, of one store and of the call's end; and the roots of a copy.
-use Prim.Native.Nat.{ℕ, ◌+◌, ◌≤◌, ◌<◌}
-use mathlib.Core.Path.{◌≡◌, refl, sym, ap, ◌∙◌}
-use mathlib.Core.List.{List, [], ◌∷◌, map}
+-- A C function that stores f of each element of a slice in order, and the roots of a copy.
+use Prim.Native.Nat.{ℕ, ◌+◌, ◌<◌}
+use mathlib.Core.Path.{◌≡◌, refl, sym, ◌∙◌}
+use mathlib.Core.List.{List, map}
 use native.Mathlib.Nat.{not-suc-le-zero}
 use native.Mathlib.Omega.{arith}
 use borrow.Author.Count.{below_more}
 use lib.ListN.{length, get_or, set, length-set, length-map, get_or-map}
 use lib.Seq.{get_or-set_same, get_or-set_other, ext_get_or}
-use lib.Ieee.{Float, binary32}
-use Rattle.floats.specs.Root.{sqrt_of, first_roots}
-use Rattle.sheet.specs.declared.Answer.{Answer}
-use Rattle.sheet.specs.declared.Answer.TheVariants.{Done}
-use Rattle.sheet.specs.Size.{lengths_answer}
-use Rattle.sheet.specs.Contract.{Lent, became}
+use Rattle.std.proofs.lemmas.List.{get_or_read_under}
+use Rattle.std.specs.Prelude.{Err}
+use Rattle.sheet.specs.declared.Refusal.{Refusal}
+use Rattle.sheet.specs.Answer.{Answer, Done}
+use Rattle.sheet.specs.Contract.{Lent, was, became}
 use Rattle.nuprikhen.specs.declared.nup_answer.{nup_answer}
-use Rattle.nuprikhen.specs.Called.{Told, Called}
-use Rattle.nuprikhen.proofs.Calls.{called_done, pair_same}
+use Rattle.nuprikhen.specs.Called.{Told, Called, pair_answer}
+use Rattle.nuprikhen.specs.Inner.Mapped.{Images, MappedInto}
+use Rattle.nuprikhen.proofs.Calls.{called_by}
 
--- out₀ is the slice where the loop began, and out the slice with f of xs's element stored at each k below i; a is what xs has past its end
-pub record Mapping {A B : Type 0} (f : A → B) (a : A) (xs : List A) (out₀ out : List B) (i : ℕ) : Type 0 where
-  pub pair : length xs ≡ length out₀
-  pub same : length out ≡ length out₀
-  pub stored : (k : ℕ) → k < i → get_or out k (f a) ≡ f (get_or xs k a)
+module _ {A B : Type 0} {R : A → B → Type 0} {xs : List A} where
+  pub images_start : {out : List B} → length xs ≡ length out → Images R xs out 0
+  images_start e = record { same = sym e; each = λ i a b h. absurd (not-suc-le-zero h) }
 
-module _ {A B : Type 0} {f : A → B} {a : A} {xs : List A} where
-  -- two lengths that passed the test are equal
-  pub map_start : {out : List B} {r : Answer} → r ≡ lengths_answer (length xs) (length out ∷ []) → r ≡ Done → Mapping f a xs out out 0
-  map_start e d = record { pair = pair_same e d; same = refl; stored = λ k h. absurd (not-suc-le-zero h) }
-
-  pub map_store : {out₀ out : List B} {i : ℕ} (v : B) → Mapping f a xs out₀ out i → i < length out → v ≡ f (get_or xs i a) → Mapping f a xs out₀ (set out i v) (i + 1)
-  map_store {out₀} {out} {i} v r h e = record {
-    pair = r.pair;
+  -- element x of xs is read at i, and v is stored there
+  pub images_store : {out : List B} {i : ℕ} {x : A} {v : B} → Images R xs out i → i < length xs → x ≡ get_or xs i x → R x v → Images R xs (set out i v) (i + 1)
+  images_store {out} {i} {x} {v} r h e p = record {
     same = length-set out i v ∙ r.same;
-    stored = below_more (λ k. get_or (set out i v) k (f a) ≡ f (get_or xs k a)) i (λ k l. get_or-set_other out i k v (f a) (omega arith) ∙ r.stored k l) (get_or-set_same out i v (f a) h ∙ e);
+    each = λ k a b l. below_more (λ j. R (get_or xs j a) (get_or (set out i v) j b)) i (λ j m. rw (get_or-set_other out i j v b (omega arith)) (r.each j a b m)) (rw (get_or-set_same out i v b (omega (arith, r.same)), ← get_or_read_under xs i (length xs) x a e h refl) p) k l;
   }
 
-  map_done : {out₀ out : List B} {i : ℕ} → Mapping f a xs out₀ out i → length out ≤ i → out ≡ map f xs
-  map_done {out₀} {out} {i} r h =
-      ext_get_or (f a) out (map f xs) (r.same ∙ (sym r.pair ∙ sym (length-map xs f)))
-      (λ k l. r.stored k (omega arith) ∙ sym (get_or-map f xs k a))
+  -- where R says that it is h of the element
+  pub images_map : (h : A → B) (a : A) {out : List B} → Images R xs out (length xs) → ((x : A) (y : B) → R x y → y ≡ h x) → out ≡ map h xs
+  images_map h a {out} r g =
+      ext_get_or (h a) out (map h xs) (r.same ∙ sym (length-map xs h))
+      (λ k l. g _ _ (r.each k a (h a) (omega (arith, r.same))) ∙ sym (get_or-map h xs k a))
 
-  pub map_called : {answer r : Answer} {c : nup_answer} {lent : Lent B} {out₀ : List B} {i : ℕ} → r ≡ answer → Told r c → r ≡ Done → Mapping f a xs out₀ (became lent) i → length (became lent) ≤ i → Called answer c (map f xs) lent
-  map_called e t d m h = called_done e t d (map_done m h)
+-- `map_into`: what its `?` returns, and its end
+pub into_refused : {A B : Type 0} {R : A → B → Type 0} {xs : Lent A} {a r : Answer} {u : Refusal} {out : Lent B} → a ≡ pair_answer xs out → a ≡ Err u → r ≡ Err u → became out ≡ was out → MappedInto R xs r out
+into_refused e h p k = record { answered = p ∙ (sym h ∙ e); kept = λ _. k; mapped = λ d. absurd (never (sym p ∙ d)) }
+  where
+    never : {u : Refusal} → ◌≡◌ {A = Answer} (Err u) Done → ⊥
+    never z = cc
 
--- ---- the roots of a copy
-pub copied : {A : Type 0} {a : A} {xs out₀ out : List A} {i : ℕ} → Mapping (λ x. x) a xs out₀ out i → length out ≤ i → out ≡ xs
-copied {A} {a} {xs} {out₀} {out} r h = ext_get_or a out xs (r.same ∙ sym r.pair) (λ k l. r.stored k (omega arith))
+pub into_done : {A B : Type 0} {R : A → B → Type 0} {xs : Lent A} {a : Answer} {out : Lent B} → a ≡ pair_answer xs out → a ≡ Done → Images R (was xs) (became out) (length (was xs)) → MappedInto R xs Done out
+into_done e d m = record { answered = sym d ∙ e; kept = λ h. absurd h; mapped = λ _. m }
 
-pub all_roots : (xs : List Float) → first_roots (length xs) xs ≡ map (sqrt_of binary32) xs
-unfolding first_roots
-all_roots [] = refl
-all_roots (x ∷ xs) = ap (λ (l : List Float). sqrt_of binary32 x ∷ l) (all_roots xs)
+pub mapped_called : {A B : Type 0} {R : A → B → Type 0} (h : A → B) (a : A) (xs : Lent A) (answer : Answer) (lent : Lent B) {c : nup_answer} → MappedInto R xs answer lent → Told answer c → ((x : A) (y : B) → R x y → y ≡ h x) → Called (pair_answer xs lent) c (map h (was xs)) lent
+mapped_called h a xs answer lent m t g = called_by answer m.answered t m.kept (λ d. images_map h a (m.mapped d) g)

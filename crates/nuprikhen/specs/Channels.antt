@@ -1,8 +1,6 @@
 -- What a channel's number names across the C boundary; one that names no channel is out of range.
 use Rattle.std.specs.Prelude.{ℕ, zero, suc, cond, List, ltb, Float}
-use Rattle.sheet.specs.declared.Answer.{Answer}
-use Rattle.sheet.specs.declared.Answer.TheVariants.{Done}
-use Rattle.sheet.specs.Answer.{refusal, and_then}
+use Rattle.sheet.specs.Answer.{Answer, Done, refusal, and_then}
 use Rattle.sheet.specs.Contract.{Lent, was}
 use Rattle.displacement_map.specs.declared.ColorChannel.{ColorChannel}
 use Rattle.displacement_map.specs.declared.ColorChannel.TheVariants.{R, G, B, A}
@@ -16,6 +14,10 @@ channel_of zero = R
 channel_of (suc zero) = G
 channel_of (suc (suc zero)) = B
 channel_of (suc (suc (suc n))) = A
+
+-- the number is 0 to 3
+unfoldable pub named_channel : ℕ → Answer
+named_channel n = cond (ltb 3 n) (refusal 5) Done
 
 -- both numbers are 0 to 3
 unfoldable pub named_channels : ℕ → ℕ → Answer

@@ -1,2 +1,4 @@
 pub mod Numbered
+pub mod Mapped
+pub mod Transfers
 pub mod Recipes

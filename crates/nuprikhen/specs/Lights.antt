@@ -1,7 +1,7 @@
 -- What a light's number names across the C boundary, and the contracts of the two lightings.
 use Rattle.std.specs.Prelude.{ℕ, zero, suc, Float}
 use Rattle.floats.specs.Constants.{c0}
-use Rattle.sheet.specs.declared.Answer.{Answer}
+use Rattle.sheet.specs.Answer.{Answer}
 use Rattle.sheet.specs.Contract.{Lent, was}
 use Rattle.lighting.specs.declared.light.LightSource.{LightSource}
 use Rattle.lighting.specs.declared.light.LightSource.TheVariants.{Distant, Point}

@@ -1,8 +1,6 @@
 -- What turbulence's numbers name across the C boundary.
 use Rattle.std.specs.Prelude.{ℕ, cond, List, ℤ, eqb, ltb, Float}
-use Rattle.sheet.specs.declared.Answer.{Answer}
-use Rattle.sheet.specs.declared.Answer.TheVariants.{Done}
-use Rattle.sheet.specs.Answer.{refusal, and_then}
+use Rattle.sheet.specs.Answer.{Answer, Done, refusal, and_then}
 use Rattle.sheet.specs.Contract.{Lent, was}
 use Rattle.turbulence.specs.declared.Turbulence.{Turbulence}
 use Rattle.turbulence.specs.Turbulence.{answer, drawn}

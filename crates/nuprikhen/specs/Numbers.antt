@@ -1,12 +1,12 @@
 -- What the number of a transfer function names across the C boundary; one that names no case is out of range.
 use Rattle.std.specs.Prelude.{ℕ, zero, suc, min, Float, cond, List, eqb, length}
-use Rattle.sheet.specs.declared.Answer.{Answer}
-use Rattle.sheet.specs.declared.Answer.TheVariants.{Done}
-use Rattle.sheet.specs.Answer.{refusal}
+use Rattle.sheet.specs.Answer.{Answer, Done, refusal}
 use Rattle.sheet.specs.Contract.{Lent, was}
 use Rattle.pool.specs.declared.Numbers.{Numbers}
 use Rattle.component_transfer.specs.declared.TransferFunction.{TransferFunction}
 use Rattle.component_transfer.specs.declared.TransferFunction.TheVariants.{Identity, Table, Discrete, Linear}
+use Rattle.nuprikhen.specs.declared.nup_answer.{nup_answer}
+use Rattle.nuprikhen.specs.Called.{Called}
 use Rattle.component_transfer.specs.Functions.{value_at}
 use Rattle.component_transfer.specs.ComponentTransfer.{function_answer, transfer, answer, transferred}
 
@@ -33,18 +33,18 @@ numbered_answer (suc (suc zero)) values = function_answer (function_of 2 values)
 numbered_answer (suc (suc (suc zero))) values = cond (eqb (length values) 2) (function_answer (function_of 3 values) values) (refusal 3)
 numbered_answer (suc (suc (suc (suc n)))) values = refusal 5
 
--- ---- over lent values themselves
-abbrev pub tested_by : ℕ → Lent Float → Answer
-tested_by kind values = numbered_answer kind (was values)
-
-abbrev pub byte_by : ℕ → Lent Float → ℕ → ℕ
-byte_by kind values = transfer (function_of kind (was values)) (was values)
-
--- component transfer by red's, green's, blue's and alpha's number, each with its values
-abbrev pub transfer_answer : ℕ → Lent Float → ℕ → Lent Float → ℕ → Lent Float → ℕ → Lent Float → ℕ → ℕ → Lent ℕ → Answer
+-- ---- component transfer by red's, green's, blue's and alpha's number, each with its values
+abbrev pub transfer_answer : ℕ → List Float → ℕ → List Float → ℕ → List Float → ℕ → List Float → ℕ → ℕ → List ℕ → Answer
 transfer_answer red r green g blue b alpha a w h src =
-    answer (tested_by red r) (tested_by green g) (tested_by blue b) (tested_by alpha a) w h (was src)
+    answer (numbered_answer red r) (numbered_answer green g) (numbered_answer blue b) (numbered_answer alpha a) w h src
 
-abbrev pub transfer_bytes : ℕ → Lent Float → ℕ → Lent Float → ℕ → Lent Float → ℕ → Lent Float → Lent ℕ → List ℕ
-transfer_bytes red r green g blue b alpha a src =
-    transferred (byte_by red r) (byte_by green g) (byte_by blue b) (byte_by alpha a) (was src)
+abbrev pub byte_by : ℕ → List Float → ℕ → ℕ
+byte_by kind values = transfer (function_of kind values) values
+
+abbrev pub transfer_bytes : ℕ → List Float → ℕ → List Float → ℕ → List Float → ℕ → List Float → List ℕ → List ℕ
+transfer_bytes red r green g blue b alpha a src = transferred (byte_by red r) (byte_by green g) (byte_by blue b) (byte_by alpha a) src
+
+-- the contract: what the call told, and the sheet
+abbrev pub Transferred : ℕ → List Float → ℕ → List Float → ℕ → List Float → ℕ → List Float → ℕ → ℕ → nup_answer → Lent ℕ → Type 0
+Transferred red r green g blue b alpha a w h result src =
+    Called (transfer_answer red r green g blue b alpha a w h (was src)) result (transfer_bytes red r green g blue b alpha a (was src)) src

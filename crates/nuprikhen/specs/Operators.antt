@@ -1,8 +1,6 @@
 -- What an operator's number names across the C boundary; one that names no operator is out of range.
 use Rattle.std.specs.Prelude.{ℕ, zero, suc, cond, List, ltb, Float}
-use Rattle.sheet.specs.declared.Answer.{Answer}
-use Rattle.sheet.specs.declared.Answer.TheVariants.{Done}
-use Rattle.sheet.specs.Answer.{refusal, and_then}
+use Rattle.sheet.specs.Answer.{Answer, Done, refusal, and_then}
 use Rattle.sheet.specs.Contract.{Lent, was, Cleared}
 use Rattle.morphology.specs.declared.operator.MorphologyOperator.{MorphologyOperator}
 use Rattle.morphology.specs.declared.operator.MorphologyOperator.TheVariants.{Dilate, Erode}

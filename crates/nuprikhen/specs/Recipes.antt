@@ -1,28 +1,27 @@
 -- Recipes across the C boundary: a message is read, then run; the contracts of `nup_run` and `nup_reaches`.
-use Rattle.std.specs.Prelude.{ℕ, ◌*◌, ◌<◌, ◌≡◌, cond, List, length, replicate, eqb, ltb, Float}
+use Rattle.std.specs.Prelude.{Result, Ok, Err, ℕ, ◌*◌, ◌<◌, ◌≡◌, cond, List, length, replicate, eqb, ltb, Float}
 use Rattle.std.proofs.lemmas.List.Edits.{sets}
 use Rattle.floats.specs.Constants.{c0}
-use Rattle.sheet.specs.declared.Answer.{Answer}
-use Rattle.sheet.specs.declared.Answer.TheVariants.{Done}
+use Rattle.sheet.specs.Answer.{Answer, Done}
 use Rattle.sheet.specs.Answer as sheet
 use Rattle.sheet.specs.Contract.{Lent, was, became}
 use Rattle.sheet.specs.Tabulate.{zeros}
 use Rattle.recipe.specs.declared.Kind.{Kind}
 use Rattle.recipe.specs.declared.Kind.TheVariants.{Straight, Premultiplied}
 use Rattle.recipe.specs.declared.Recipe.{Recipe}
-use Rattle.recipe.specs.Tests.{step_of, run_answer}
+use Rattle.recipe.specs.Tests.{RunAnswer, whole, step_of, run_answer}
+use Rattle.recipe.specs.Tests as recipe
 use Rattle.filter.specs.Slots.{Slots, slots, acts}
 use Rattle.filter.specs.Call.{lengths}
 use Rattle.filter.specs.Reach.{Reach, step_reads, result}
-use Rattle.message.specs.declared.MessageAnswer.{MessageAnswer}
-use Rattle.message.specs.declared.MessageAnswer.TheVariants as message
+use Rattle.message.specs.declared.MessageError.{MessageError}
 use Rattle.message.specs.Message.{read_message}
-use Rattle.message.specs.Answers.{number, step_index, offset, on_done, recipe_of, content_of, read_answer}
+use Rattle.message.specs.Answers.{number, step_index, offset, done, on_done, recipe_of, content_of, read_answer}
 use Rattle.nuprikhen.specs.declared.nup_recipes.nup_run_answer.{nup_run_answer}
 use Rattle.nuprikhen.specs.declared.nup_recipes.nup_reach_answer.{nup_reach_answer}
 
 -- ---- a message inside a call: its answer, with room for 16,384 numbers, its recipe, and the pool with its numbers
-abbrev pub message_answer : List ℕ → MessageAnswer
+abbrev pub message_answer : List ℕ → Result Unit MessageError
 message_answer s = read_answer (read_message s) 16384
 
 abbrev pub recipe_in : List ℕ → Recipe
@@ -35,22 +34,38 @@ pool_in s = sets (replicate 16384 c0) 0 (content_of (read_message s)).numbers
 abbrev pub kind_of : ℕ → Kind
 kind_of k = cond (eqb k 0) Straight Premultiplied
 
--- another kind is out of range, before any test of the run
-unfoldable pub kind_answer : List ℕ → ℕ → ℕ → ℕ → Slots → List ℕ → Answer
-kind_answer s kind w h x scratch = cond (ltb 1 kind) (sheet.refusal 5) (run_answer (recipe_in s) (kind_of kind) (pool_in s) w h (lengths x scratch))
+-- another kind is out of range
+unfoldable pub named_kind : ℕ → Answer
+named_kind k = cond (ltb 1 k) (sheet.refusal 5) Done
+
+-- and so it is answered, before any test of the run
+unfoldable pub kind_answer : List ℕ → ℕ → ℕ → ℕ → Slots → List ℕ → RunAnswer
+kind_answer s kind w h x scratch = cond (ltb 1 kind) (whole (sheet.refusal 5)) (run_answer (recipe_in s) (kind_of kind) (pool_in s) w h (lengths x scratch))
 
 -- what holds where the message and the run are taken, else the second
-abbrev pub on_taken : {A : Type 0} → MessageAnswer → Answer → A → A → A
+abbrev pub on_taken : {A : Type 0} → Result Unit MessageError → RunAnswer → A → A → A
 on_taken m a x y = on_done m (sheet.on_done a x y) y
 
--- the call told the message's refusal, or the run's answer
-pub record ToldBoth (m : MessageAnswer) (a : Answer) (n step at : ℕ) : Type 0 where
-  pub number_told : n ≡ on_done m (sheet.number a) (number m)
-  pub step_told : step ≡ on_done m (sheet.step_index a) (step_index m)
-  pub offset_told : at ≡ offset m
+-- what is told by the numbers: the message's refusal, or the run's answer
+abbrev pub told_number : Result Unit MessageError → RunAnswer → ℕ
+told_number (Ok u) a = recipe.number a
+told_number (Err e) a = number e
+
+abbrev pub told_step : Result Unit MessageError → RunAnswer → ℕ
+told_step (Ok u) a = recipe.step_index a
+told_step (Err e) a = step_index e
+
+abbrev pub told_offset : Result Unit MessageError → ℕ
+told_offset (Ok u) = 0
+told_offset (Err e) = offset e
+
+pub record ToldBoth (m : Result Unit MessageError) (a : RunAnswer) (n step at : ℕ) : Type 0 where
+  pub number_told : n ≡ told_number m a
+  pub step_told : step ≡ told_step m a
+  pub offset_told : at ≡ told_offset m
 
 -- ---- the contract of `nup_run`
-pub record RunFrom (s : List ℕ) (kind w h : ℕ) (source slot1 slot2 slot3 scratch : Lent ℕ) (a : Answer) (r : nup_run_answer) : Type 0 where
+pub record RunFrom (s : List ℕ) (kind w h : ℕ) (source slot1 slot2 slot3 scratch : Lent ℕ) (a : RunAnswer) (r : nup_run_answer) : Type 0 where
   pub told : ToldBoth (message_answer s) a r.number r.step r.offset
   pub sheets :
       slots (was source) (became slot1) (became slot2) (became slot3)
@@ -67,15 +82,15 @@ RunCalled message kind w h source slot1 slot2 slot3 scratch =
 
 -- ---- the contract of `nup_reaches`
 -- the message and the run are taken, and a byte of the result reaches a source byte
-pub record ReachingFrom (s : List ℕ) (w h : ℕ) (a : Answer) : Type 0 where
-  pub read : message_answer s ≡ message.Done
+pub record ReachingFrom (s : List ℕ) (w h : ℕ) (a : RunAnswer) : Type 0 where
+  pub read : message_answer s ≡ done
   pub accepted : a ≡ Done
   pub byte : ℕ
   pub inside : byte < 4 * w * h
   pub origin : ℕ
   pub way : Reach (step_reads (pool_in s) w h) (step_of (recipe_in s)) (recipe_in s).count (result (recipe_in s)) byte origin
 
-pub record ReachFrom (s : List ℕ) (w h : ℕ) (a : Answer) (r : nup_reach_answer) : Type 0 where
+pub record ReachFrom (s : List ℕ) (w h : ℕ) (a : RunAnswer) (r : nup_reach_answer) : Type 0 where
   pub told : ToldBoth (message_answer s) a r.number r.step r.offset
   pub yes_or_no : r.reaches < 2
   pub only : r.reaches ≡ 1 → ReachingFrom s w h a

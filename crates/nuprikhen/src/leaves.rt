@@ -5,22 +5,44 @@ ghost use Rattle.std.specs.Float.Ieee.{to_unsigned};
 ghost use Rattle.floats.specs.Narrow.{narrow_to};
 ghost use Rattle.floats.specs.Root.{sqrt_of};
 ghost use Rattle.floats.specs.Round.{round_to};
-ghost use Rattle.sheet.specs.declared.Answer.TheVariants.{Done};
+ghost use Rattle.sheet.specs.Answer.{Done};
 ghost use Rattle.sheet.specs.Size.{lengths_answer};
-ghost use Rattle.sheet.specs.Contract.{lent, read_only};
+ghost use Rattle.sheet.specs.Contract.{lent, read_only, Filtered};
 ghost use Rattle.sheet.specs.Tabulate.{zeros};
 ghost use Rattle.nuprikhen.specs.Called.{Called, pair_answer};
+ghost use Rattle.nuprikhen.specs.Inner.Mapped.{MappedInto};
 
-use crate::{nup_answer, told};
-use sheet::{Answer, Refusal};
+use crate::nup_answer;
+use sheet::Refusal;
 
-fn test(a: usize, b: usize) -> Answer
+fn test(a: usize, b: usize) -> Result<(), Refusal>
     ensures { result ≡ lengths_answer a (b ∷ []) }
 {
     if b != a {
-        return Answer::Refused(Refusal::Length, 0);
+        return Err(Refusal::Length);
     }
-    Answer::Done
+    Ok(())
+}
+
+// out becomes `f` of each of xs.
+fn map_into<A: Copy, B: Copy, F: Fn(A) -> B>(xs: &[A], out: &mut [B], f: F) -> Result<(), Refusal>
+    requires { F.IsAlwaysCallable f }
+    ensures { MappedInto (F.post f) (read_only xs.now) result (lent out.old out.new) }
+{
+    test(xs.len(), out.len())?;
+    for i in 0..xs.len() {
+        out[i] = f(xs[i]);
+    }
+    Ok(())
+}
+
+// dst takes src's bytes.
+fn copy_into(src: &[u8], dst: &mut [u8]) -> Result<(), Refusal>
+    ensures { Filtered (pair_answer (read_only src.now) (lent dst.old dst.new)) result src.now (lent dst.old dst.new) }
+{
+    test(src.len(), dst.len())?;
+    sheet::copy(src, dst);
+    Ok(())
 }
 
 // Each of xs as a byte.
@@ -28,16 +50,7 @@ fn test(a: usize, b: usize) -> Answer
 pub extern "C" fn nup_to_bytes(xs: &[f32], out: &mut [u8]) -> nup_answer
     ensures { Called (pair_answer (read_only xs.now) (lent out.old out.new)) result (map (to_unsigned 8) xs.now) (lent out.old out.new) }
 {
-    let tested = test(xs.len(), out.len());
-    let Answer::Done = tested else {
-        return told(tested);
-    };
-    let mut i = 0;
-    while i < out.len() {
-        out[i] = floats::to_byte(xs[i]);
-        i += 1;
-    }
-    told(tested)
+    nup_answer::from(map_into(xs, out, |x| floats::to_byte(x)))
 }
 
 // Each of xs rounded, a half away from zero.
@@ -45,16 +58,7 @@ pub extern "C" fn nup_to_bytes(xs: &[f32], out: &mut [u8]) -> nup_answer
 pub extern "C" fn nup_round_to_i32s(xs: &[f32], out: &mut [i32]) -> nup_answer
     ensures { Called (pair_answer (read_only xs.now) (lent out.old out.new)) result (map (round_to 31) xs.now) (lent out.old out.new) }
 {
-    let tested = test(xs.len(), out.len());
-    let Answer::Done = tested else {
-        return told(tested);
-    };
-    let mut i = 0;
-    while i < out.len() {
-        out[i] = floats::round_to_i32(xs[i]);
-        i += 1;
-    }
-    told(tested)
+    nup_answer::from(map_into(xs, out, |x| floats::round_to_i32(x)))
 }
 
 // The square root of each of xs.
@@ -62,18 +66,7 @@ pub extern "C" fn nup_round_to_i32s(xs: &[f32], out: &mut [i32]) -> nup_answer
 pub extern "C" fn nup_sqrt32(xs: &[f32], out: &mut [f32]) -> nup_answer
     ensures { Called (pair_answer (read_only xs.now) (lent out.old out.new)) result (map (sqrt_of binary32) xs.now) (lent out.old out.new) }
 {
-    let tested = test(xs.len(), out.len());
-    let Answer::Done = tested else {
-        return told(tested);
-    };
-    let mut i = 0;
-    while i < out.len() {
-        out[i] = xs[i];
-        i += 1;
-    }
-    let n = out.len();
-    floats::roots(out, n);
-    told(tested)
+    nup_answer::from(map_into(xs, out, |x| floats::sqrt(x)))
 }
 
 // The square root of each of xs.
@@ -81,16 +74,7 @@ pub extern "C" fn nup_sqrt32(xs: &[f32], out: &mut [f32]) -> nup_answer
 pub extern "C" fn nup_sqrt64(xs: &[f64], out: &mut [f64]) -> nup_answer
     ensures { Called (pair_answer (read_only xs.now) (lent out.old out.new)) result (map (sqrt_of binary64) xs.now) (lent out.old out.new) }
 {
-    let tested = test(xs.len(), out.len());
-    let Answer::Done = tested else {
-        return told(tested);
-    };
-    let mut i = 0;
-    while i < out.len() {
-        out[i] = floats::sqrt64(xs[i]);
-        i += 1;
-    }
-    told(tested)
+    nup_answer::from(map_into(xs, out, |x| floats::sqrt(x)))
 }
 
 // Each of xs rounded to the nearest f32.
@@ -98,16 +82,7 @@ pub extern "C" fn nup_sqrt64(xs: &[f64], out: &mut [f64]) -> nup_answer
 pub extern "C" fn nup_to_f32s(xs: &[f64], out: &mut [f32]) -> nup_answer
     ensures { Called (pair_answer (read_only xs.now) (lent out.old out.new)) result (map (narrow_to binary32) xs.now) (lent out.old out.new) }
 {
-    let tested = test(xs.len(), out.len());
-    let Answer::Done = tested else {
-        return told(tested);
-    };
-    let mut i = 0;
-    while i < out.len() {
-        out[i] = floats::to_f32(xs[i]);
-        i += 1;
-    }
-    told(tested)
+    nup_answer::from(map_into(xs, out, |x| floats::to_f32(x)))
 }
 
 // dst takes src's bytes.
@@ -115,12 +90,7 @@ pub extern "C" fn nup_to_f32s(xs: &[f64], out: &mut [f32]) -> nup_answer
 pub extern "C" fn nup_copy(src: &[u8], dst: &mut [u8]) -> nup_answer
     ensures { Called (pair_answer (read_only src.now) (lent dst.old dst.new)) result src.now (lent dst.old dst.new) }
 {
-    let tested = test(src.len(), dst.len());
-    let Answer::Done = tested else {
-        return told(tested);
-    };
-    sheet::copy(src, dst);
-    told(tested)
+    nup_answer::from(copy_into(src, dst))
 }
 
 // Every byte of dst becomes 0.
@@ -129,5 +99,5 @@ pub extern "C" fn nup_clear(dst: &mut [u8]) -> nup_answer
     ensures { Called Done result (zeros (length dst.old)) (lent dst.old dst.new) }
 {
     sheet::clear(dst);
-    told(Answer::Done)
+    nup_answer::from(Ok(()))
 }

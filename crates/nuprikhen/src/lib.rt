@@ -16,7 +16,7 @@ mod nup_version;
 
 ghost use Rattle.nuprikhen.specs.Called.{Told};
 
-use sheet::Answer;
+use sheet::Refusal;
 
 // What a call answers: docs/LAW.md's number, 0 when it is done, and the index of the step.
 #[derive(Clone, Copy)]
@@ -26,11 +26,15 @@ pub struct nup_answer {
     pub step: u8,
 }
 
-// An answer as C has it.
-pub fn told(answer: Answer) -> nup_answer
-    ensures { Told answer result }
-{
-    let number = sheet::answer_number(answer);
-    let step = sheet::answer_step(answer);
-    nup_answer { number, step }
+// The answer of a single call as C has it.
+impl From<Result<(), Refusal>> for nup_answer {
+    ghost from_gives = { λ answer told. Told answer told };
+
+    fn from(answer: Result<(), Refusal>) -> nup_answer {
+        let number = match answer {
+            Ok(()) => 0,
+            Err(refusal) => u8::from(refusal),
+        };
+        nup_answer { number, step: 0 }
+    }
 }

@@ -8,7 +8,8 @@ use pool::Numbers;
 pub fn all_of(values: &[f32]) -> Numbers
     ensures { result ≡ all_of values.now }
 {
-    let n = values.len();
-    let count = if n < 4294967295 { n as u32 } else { 4294967295 };
-    Numbers { start: 0, count }
+    Numbers {
+        start: 0,
+        count: values.len().min(4294967295) as u32,
+    }
 }

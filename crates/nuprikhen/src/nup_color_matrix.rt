@@ -6,14 +6,14 @@ ghost use Rattle.nuprikhen.specs.Colours.{Recoloured};
 ghost use Rattle.nuprikhen.specs.Numbers.{all_of};
 
 use crate::numbers::all_of;
-use crate::{nup_answer, told};
+use crate::nup_answer;
 use color_matrix::ColorMatrix;
 
 // A case that reads no pool.
 fn recolour(matrix: ColorMatrix, width: u32, height: u32, src: &mut [u8]) -> nup_answer
     ensures { Recoloured matrix [] width height result (lent src.old src.new) }
 {
-    told(color_matrix::apply(matrix, &[], width as usize, height as usize, src))
+    nup_answer::from(color_matrix::apply(matrix, &[], width as usize, height as usize, src))
 }
 
 // A matrix of twenty numbers on straight colour, in place.
@@ -22,7 +22,7 @@ pub extern "C" fn nup_color_matrix(width: u32, height: u32, m: &[f32], src: &mut
     ensures { Recoloured (Matrix (all_of m.now)) m.now width height result (lent src.old src.new) }
 {
     let matrix = ColorMatrix::Matrix(all_of(m));
-    told(color_matrix::apply(matrix, m, width as usize, height as usize, src))
+    nup_answer::from(color_matrix::apply(matrix, m, width as usize, height as usize, src))
 }
 
 // Saturation of straight colour, in place.

@@ -1,14 +1,14 @@
 // Component transfer, with each channel's function as a number and its values.
 ghost use Rattle.std.specs.Prelude.{◌≡◌};
-ghost use Rattle.sheet.specs.Contract.{lent, read_only, Filtered};
-ghost use Rattle.component_transfer.specs.ComponentTransfer.{functions_answer};
-ghost use Rattle.nuprikhen.specs.Called.{Called};
-ghost use Rattle.nuprikhen.specs.Numbers.{linear_of, function_of, tested_by, transfer_answer, transfer_bytes};
+ghost use Rattle.sheet.specs.Contract.{lent, Filtered};
+ghost use Rattle.component_transfer.specs.ComponentTransfer.{answer, transferred};
+ghost use Rattle.nuprikhen.specs.Numbers.{linear_of, function_of, Transferred};
+ghost use Rattle.nuprikhen.specs.Inner.Transfers.{tested, byte_of};
 
 use crate::numbers::all_of;
-use crate::{nup_answer, told};
-use component_transfer::TransferFunction;
-use sheet::{Answer, Refusal};
+use crate::nup_answer;
+use component_transfer::{Channel, TransferFunction};
+use sheet::Refusal;
 
 fn linear_of(values: &[f32]) -> TransferFunction
     ensures { result ≡ linear_of values.now }
@@ -19,94 +19,75 @@ fn linear_of(values: &[f32]) -> TransferFunction
     TransferFunction::Identity
 }
 
-// The function of this number.
-fn function_of(kind: u8, values: &[f32]) -> TransferFunction
-    ensures { result ≡ function_of kind values.now }
-{
-    let entries = all_of(values);
-    if kind == 0 {
-        return TransferFunction::Identity;
-    }
-    if kind == 1 {
-        return TransferFunction::Table(entries);
-    }
-    if kind == 2 {
-        return TransferFunction::Discrete(entries);
-    }
-    linear_of(values)
+// A channel's function as C gives it: a number and the values.
+#[derive(Clone, Copy)]
+struct Numbered<'a> {
+    kind: u8,
+    values: &'a [f32],
 }
 
-// Tests 3, 4 and 5 of the function of this number.
-#[tactic(auto, using(crate::proofs::Functions::not_of_two))]
-fn test_numbered(kind: u8, values: &[f32]) -> Answer
-    ensures { result ≡ tested_by kind (read_only values.now) }
-{
-    if kind < 3 {
-        return component_transfer::test_function(function_of(kind, values), values);
+impl<'a> Numbered<'a> {
+    // The function of the number.
+    fn function(self) -> TransferFunction
+        ensures { result ≡ function_of self.entry.kind self.entry.values.now }
+    {
+        match self.kind {
+            0 => TransferFunction::Identity,
+            1 => TransferFunction::Table(all_of(self.values)),
+            2 => TransferFunction::Discrete(all_of(self.values)),
+            _ => linear_of(self.values),
+        }
     }
-    if kind != 3 {
-        return Answer::Refused(Refusal::Range, 0);
-    }
-    if values.len() != 2 {
-        return Answer::Refused(Refusal::Shape, 0);
-    }
-    component_transfer::test_function(linear_of(values), values)
-}
 
-// Those tests of all four channels.
-fn test_all(
-    red: u8,
-    r: &[f32],
-    green: u8,
-    g: &[f32],
-    blue: u8,
-    b: &[f32],
-    alpha: u8,
-    a: &[f32],
-) -> Answer
-    ensures { result ≡ functions_answer (tested_by red (read_only r.now)) (tested_by green (read_only g.now)) (tested_by blue (read_only b.now)) (tested_by alpha (read_only a.now)) }
-{
-    component_transfer::of_all(
-        test_numbered(red, r),
-        test_numbered(green, g),
-        test_numbered(blue, b),
-        test_numbered(alpha, a),
-    )
+    // Tests 3, 4 and 5 of the function.
+    #[tactic(auto, using(crate::proofs::Functions::not_of_two))]
+    fn tested(self) -> Result<(), Refusal>
+        ensures { result ≡ tested self.entry }
+    {
+        if self.kind < 3 {
+            return component_transfer::test_function(self.function(), self.values);
+        }
+        if self.kind != 3 {
+            return Err(Refusal::Range);
+        }
+        if self.values.len() != 2 {
+            return Err(Refusal::Shape);
+        }
+        component_transfer::test_function(linear_of(self.values), self.values)
+    }
 }
 
 // Component transfer by the functions' numbers.
 fn apply_numbered(
-    red: u8,
-    r: &[f32],
-    green: u8,
-    g: &[f32],
-    blue: u8,
-    b: &[f32],
-    alpha: u8,
-    a: &[f32],
+    r: Numbered,
+    g: Numbered,
+    b: Numbered,
+    a: Numbered,
     width: usize,
     height: usize,
     src: &mut [u8],
-) -> Answer
-    ensures { Filtered (transfer_answer red (read_only r.now) green (read_only g.now) blue (read_only b.now) alpha (read_only a.now) width height (lent src.old src.new)) result (transfer_bytes red (read_only r.now) green (read_only g.now) blue (read_only b.now) alpha (read_only a.now) (lent src.old src.new)) (lent src.old src.new) }
+) -> Result<(), Refusal>
+    ensures { Filtered (answer (tested r.entry) (tested g.entry) (tested b.entry) (tested a.entry) width height src.old) result (transferred (byte_of r.entry) (byte_of g.entry) (byte_of b.entry) (byte_of a.entry) src.old) (lent src.old src.new) }
 {
-    let sheets = sheet::test1(width, height, src.len());
-    let Answer::Done = sheets else {
-        return sheets;
-    };
-    let tested = test_all(red, r, green, g, blue, b, alpha, a);
-    let Answer::Done = tested else {
-        return tested;
-    };
+    sheet::test(width, height, &[src.len()])?;
+    component_transfer::of_all(r.tested(), g.tested(), b.tested(), a.tested())?;
     component_transfer::apply(
-        function_of(red, r),
-        r,
-        function_of(green, g),
-        g,
-        function_of(blue, b),
-        b,
-        function_of(alpha, a),
-        a,
+        Channel {
+            function: r.function(),
+            pool: r.values,
+        },
+        Channel {
+            function: g.function(),
+            pool: g.values,
+        },
+        Channel {
+            function: b.function(),
+            pool: b.values,
+        },
+        Channel {
+            function: a.function(),
+            pool: a.values,
+        },
         width,
         height,
         src,
@@ -129,17 +110,25 @@ pub extern "C" fn nup_component_transfer(
     a: &[f32],
     src: &mut [u8],
 ) -> nup_answer
-    ensures { Called (transfer_answer red (read_only r.now) green (read_only g.now) blue (read_only b.now) alpha (read_only a.now) width height (lent src.old src.new)) result (transfer_bytes red (read_only r.now) green (read_only g.now) blue (read_only b.now) alpha (read_only a.now) (lent src.old src.new)) (lent src.old src.new) }
+    ensures { Transferred red r.now green g.now blue b.now alpha a.now width height result (lent src.old src.new) }
 {
-    told(apply_numbered(
-        red,
-        r,
-        green,
-        g,
-        blue,
-        b,
-        alpha,
-        a,
+    nup_answer::from(apply_numbered(
+        Numbered {
+            kind: red,
+            values: r,
+        },
+        Numbered {
+            kind: green,
+            values: g,
+        },
+        Numbered {
+            kind: blue,
+            values: b,
+        },
+        Numbered {
+            kind: alpha,
+            values: a,
+        },
         width as usize,
         height as usize,
         src,

@@ -4,7 +4,7 @@ ghost use Rattle.composite.specs.Composite.{answer, composed};
 ghost use Rattle.composite.specs.Arithmetic.{factors};
 ghost use Rattle.nuprikhen.specs.Called.{Called};
 
-use crate::{nup_answer, told};
+use crate::nup_answer;
 
 // k1 * src1 * src2 + k2 * src1 + k3 * src2 + k4, on premultiplied colour.
 #[unsafe(no_mangle)]
@@ -21,7 +21,7 @@ pub extern "C" fn nup_arithmetic(
 ) -> nup_answer
     ensures { Called (answer k1 k2 k3 k4 width height src1.now src2.now dest.old) result (composed (factors k1 k2 k3 k4) src1.now src2.now) (lent dest.old dest.new) }
 {
-    told(composite::arithmetic(
+    nup_answer::from(composite::arithmetic(
         k1,
         k2,
         k3,

@@ -5,55 +5,45 @@ ghost use Rattle.convolve_matrix.specs.ConvolveMatrix.{convolved};
 ghost use Rattle.nuprikhen.specs.Convolving.{edge_of, named_edge, convolve_answer, matrix_of, Convolved};
 
 use crate::numbers::all_of;
-use crate::{nup_answer, told};
+use crate::nup_answer;
 use convolve_matrix::{ConvolveMatrix, EdgeMode};
-use sheet::{Answer, Refusal};
+use sheet::Refusal;
 
 fn edge_of(edge: u8) -> EdgeMode
     ensures { result ≡ edge_of edge }
 {
-    if edge == 0 {
-        return EdgeMode::None;
-    }
-    if edge == 1 {
-        return EdgeMode::Duplicate;
-    }
-    EdgeMode::Wrap
+    EdgeMode::try_from(u32::from(edge)).unwrap_or(EdgeMode::Wrap)
 }
 
 // Test 5 of the two numbers.
-fn test_named(edge: u8, preserve: u8) -> Answer
+fn test_named(edge: u8, preserve: u8) -> Result<(), Refusal>
     ensures { result ≡ named_edge edge preserve }
 {
-    if 2 < edge {
-        return Answer::Refused(Refusal::Range, 0);
+    if EdgeMode::try_from(u32::from(edge)).is_err() {
+        return Err(Refusal::Range);
     }
     if 1 < preserve {
-        return Answer::Refused(Refusal::Range, 0);
+        return Err(Refusal::Range);
     }
-    Answer::Done
+    Ok(())
 }
 
-// The filter, where the two numbers were tested to be `named`; they are refused after the other tests.
+// The filter, where the test of the two numbers answered `named`; they are refused after all else.
 fn apply_named(
-    named: Answer,
+    named: Result<(), Refusal>,
     matrix: ConvolveMatrix,
     kernel: &[f32],
     width: usize,
     height: usize,
     src: &mut [u8],
     scratch: &mut [u8],
-) -> Answer
+) -> Result<(), Refusal>
     ensures filtered { Filtered (convolve_answer named matrix kernel.now width height src.old scratch.old) result (convolved matrix kernel.now width height src.old) (lent src.old src.new) }
     ensures cleared { Cleared 0 (convolve_answer named matrix kernel.now width height src.old scratch.old) (lent scratch.old scratch.new) }
 {
-    let Answer::Done = named else {
-        let sheets = sheet::test2(width, height, src.len(), scratch.len());
-        let Answer::Done = sheets else {
-            return sheets;
-        };
-        return sheet::and_then(convolve_matrix::test(matrix, kernel), named);
-    };
+    sheet::test(width, height, &[src.len(), scratch.len()])?;
+    convolve_matrix::test(matrix, kernel)?;
+    named?;
     convolve_matrix::apply(matrix, kernel, width, height, src, scratch)
 }
 
@@ -87,7 +77,7 @@ pub extern "C" fn nup_convolve_matrix(
         edge_mode: edge_of(edge),
         preserve_alpha: preserve_alpha == 1,
     };
-    told(apply_named(
+    nup_answer::from(apply_named(
         test_named(edge, preserve_alpha),
         matrix,
         kernel,

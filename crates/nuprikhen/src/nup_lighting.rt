@@ -3,20 +3,18 @@ ghost use Rattle.std.specs.Prelude.{◌≡◌};
 ghost use Rattle.nuprikhen.specs.Lights.{light_of, color_of, DiffuseLit, SpecularLit};
 ghost use Rattle.sheet.specs.Contract.{lent, read_only};
 
-use crate::{nup_answer, told};
+use crate::nup_answer;
 use lighting::{Color, LightSource};
 
 // A number that names no light stands for a direction of no length, which is refused with the ranges.
 fn light_of(light: u8, x: f32, y: f32, z: f32) -> LightSource
     ensures { result ≡ light_of light x y z }
 {
-    if light == 0 {
-        return LightSource::Distant(x, y, z);
+    match light {
+        0 => LightSource::Distant(x, y, z),
+        1 => LightSource::Point(x, y, z),
+        _ => LightSource::Distant(0.0, 0.0, 0.0),
     }
-    if light == 1 {
-        return LightSource::Point(x, y, z);
-    }
-    LightSource::Distant(0.0, 0.0, 0.0)
 }
 
 // Diffuse lighting; light 0 is distant and 1 a point.
@@ -38,7 +36,7 @@ pub extern "C" fn nup_diffuse_lighting(
 ) -> nup_answer
     ensures { DiffuseLit (light_of light x y z) surface_scale diffuse_constant (color_of red green blue) width height (read_only src.now) result (lent dest.old dest.new) }
 {
-    told(lighting::diffuse_lighting(
+    nup_answer::from(lighting::diffuse_lighting(
         light_of(light, x, y, z),
         surface_scale,
         diffuse_constant,
@@ -70,7 +68,7 @@ pub extern "C" fn nup_specular_lighting(
 ) -> nup_answer
     ensures { SpecularLit (light_of light x y z) surface_scale specular_constant specular_exponent (color_of red green blue) width height (read_only src.now) result (lent dest.old dest.new) }
 {
-    told(lighting::specular_lighting(
+    nup_answer::from(lighting::specular_lighting(
         light_of(light, x, y, z),
         surface_scale,
         specular_constant,

@@ -1,13 +1,14 @@
 // Recipes as messages: read into a pool inside the call, then run.
 ghost use Rattle.std.specs.Prelude.{◌≡◌};
 ghost use Rattle.filter.specs.Call.{call};
-ghost use Rattle.nuprikhen.specs.Recipes.{kind_of, RunCalled, ReachCalled};
-ghost use Rattle.nuprikhen.specs.Inner.Recipes.{RanByKind, RunTold, ReachedByKind, one_if, ReachTold};
+ghost use Rattle.nuprikhen.specs.Recipes.{kind_of, named_kind, RunCalled, ReachCalled};
+ghost use Rattle.nuprikhen.specs.Inner.Numbered.{Names};
+ghost use Rattle.nuprikhen.specs.Inner.Recipes.{RanByKind, MessageTold, RunTold, ReachedByKind, ReachTold};
 ghost use Rattle.sheet.specs.Contract.{lent, read_only};
 
-use filter::{Kind, ReachAnswer, Recipe};
-use message::MessageAnswer;
-use sheet::{Answer, Refusal, Size};
+use filter::{Kind, Recipe, Refused};
+use message::MessageError;
+use sheet::{Refusal, Size};
 
 // The numbers of a message: sixteen steps of four tables of 256, so that no message which holds more can be accepted.
 const POOL: usize = 16384;
@@ -32,31 +33,43 @@ pub struct nup_reach_answer {
     pub offset: u64,
 }
 
-fn kind_of(kind: u8) -> Kind
-    ensures { result ≡ kind_of kind }
+// The kind of this number; test 5 of the number.
+fn kind_of(kind: u8) -> Result<Kind, Refusal>
+    ensures { Names (named_kind kind) (kind_of kind) result }
 {
-    if kind == 0 {
-        return Kind::Straight;
-    }
-    Kind::Premultiplied
+    Kind::try_from(u32::from(kind)).or(Err(Refusal::Range))
 }
 
-// Both answers as C has them: the message's where it is refused, else the run's.
-fn run_told(read: MessageAnswer, answer: Answer) -> nup_run_answer
-    ensures { RunTold read answer result }
-{
-    let offset = message::answer_offset(read);
-    let MessageAnswer::Done = read else {
-        return nup_run_answer {
-            number: message::answer_number(read),
-            step: message::answer_step(read),
-            offset,
-        };
-    };
-    nup_run_answer {
-        number: sheet::answer_number(answer),
-        step: sheet::answer_step(answer),
-        offset,
+// The refusal of a message as C has it.
+impl From<MessageError> for nup_run_answer {
+    ghost from_gives = { λ refused told. MessageTold refused told.number told.step told.offset };
+
+    fn from(refused: MessageError) -> nup_run_answer {
+        nup_run_answer {
+            number: refused.number(),
+            step: refused.step(),
+            offset: refused.offset(),
+        }
+    }
+}
+
+// The answer of a run as C has it.
+impl From<Result<(), Refused>> for nup_run_answer {
+    ghost from_gives = { λ answer told. RunTold answer told.number told.step told.offset };
+
+    fn from(answer: Result<(), Refused>) -> nup_run_answer {
+        match answer {
+            Ok(()) => nup_run_answer {
+                number: 0,
+                step: 0,
+                offset: 0,
+            },
+            Err(refused) => nup_run_answer {
+                number: u8::from(refused.refusal),
+                step: refused.step,
+                offset: 0,
+            },
+        }
     }
 }
 
@@ -71,15 +84,12 @@ fn run_by_kind(
     slot2: &mut [u8],
     slot3: &mut [u8],
     scratch: &mut [u8],
-) -> Answer
+) -> Result<(), Refused>
     ensures { RanByKind kind (call recipe (kind_of kind) (read_only pool.now) size (read_only source.now) (lent slot1.old slot1.new) (lent slot2.old slot2.new) (lent slot3.old slot3.new) (lent scratch.old scratch.new)) result }
 {
-    if 1 < kind {
-        return Answer::Refused(Refusal::Range, 0);
-    }
     filter::run(
         recipe,
-        kind_of(kind),
+        kind_of(kind)?,
         pool,
         size,
         source,
@@ -106,29 +116,17 @@ pub extern "C" fn nup_run(
     ensures { RunCalled (read_only message.now) kind width height (read_only source.now) (lent slot1.old slot1.new) (lent slot2.old slot2.new) (lent slot3.old slot3.new) (lent scratch.old scratch.new) result }
 {
     let mut pool = [0.0f32; POOL];
-    let reading = message::read(message, &mut pool);
-    let read = reading.answer;
-    let MessageAnswer::Done = read else {
-        return run_told(read, Answer::Done);
+    let recipe = match message::read(message, &mut pool) {
+        Ok(recipe) => recipe,
+        Err(refused) => return nup_run_answer::from(refused),
     };
-    let recipe = reading.recipe;
     let size = Size {
         width: width as usize,
         height: height as usize,
     };
-    run_told(
-        MessageAnswer::Done,
-        run_by_kind(
-            recipe, kind, &pool, size, source, slot1, slot2, slot3, scratch,
-        ),
-    )
-}
-
-// A yes or no as C has it.
-fn one_if(yes: bool) -> u8
-    ensures { result ≡ one_if yes }
-{
-    if yes { 1 } else { 0 }
+    nup_run_answer::from(run_by_kind(
+        recipe, kind, &pool, size, source, slot1, slot2, slot3, scratch,
+    ))
 }
 
 // What a run by a kind's number is answered, and whether its result reaches slot 0.
@@ -142,18 +140,12 @@ fn reaches_by_kind(
     slot2: &[u8],
     slot3: &[u8],
     scratch: &[u8],
-) -> ReachAnswer
+) -> Result<bool, Refused>
     ensures { ReachedByKind kind (call recipe (kind_of kind) (read_only pool.now) size (read_only source.now) (read_only slot1.now) (read_only slot2.now) (read_only slot3.now) (read_only scratch.now)) result }
 {
-    if 1 < kind {
-        return ReachAnswer {
-            answer: Answer::Refused(Refusal::Range, 0),
-            yes: false,
-        };
-    }
     filter::reaches(
         recipe,
-        kind_of(kind),
+        kind_of(kind)?,
         pool,
         size,
         source,
@@ -164,16 +156,39 @@ fn reaches_by_kind(
     )
 }
 
-// The answers and the yes or no as C has them.
-fn reach_told(read: MessageAnswer, answer: Answer, yes: bool) -> nup_reach_answer
-    ensures { ReachTold read answer yes result }
-{
-    let told = run_told(read, answer);
-    nup_reach_answer {
-        number: told.number,
-        step: told.step,
-        reaches: one_if(yes),
-        offset: told.offset,
+// The refusal of a message as C has it, with no yes.
+impl From<MessageError> for nup_reach_answer {
+    ghost from_gives = { λ refused told. MessageTold refused told.number told.step told.offset × (told.reaches ≡ 0) };
+
+    fn from(refused: MessageError) -> nup_reach_answer {
+        nup_reach_answer {
+            number: refused.number(),
+            step: refused.step(),
+            reaches: 0,
+            offset: refused.offset(),
+        }
+    }
+}
+
+// The answer of a run and the yes or no as C has them.
+impl From<Result<bool, Refused>> for nup_reach_answer {
+    ghost from_gives = { ReachTold };
+
+    fn from(answer: Result<bool, Refused>) -> nup_reach_answer {
+        match answer {
+            Ok(yes) => nup_reach_answer {
+                number: 0,
+                step: 0,
+                reaches: u8::from(yes),
+                offset: 0,
+            },
+            Err(refused) => nup_reach_answer {
+                number: u8::from(refused.refusal),
+                step: refused.step,
+                reaches: 0,
+                offset: 0,
+            },
+        }
     }
 }
 
@@ -193,19 +208,15 @@ pub extern "C" fn nup_reaches(
     ensures { ReachCalled (read_only message.now) kind width height (read_only source.now) (read_only slot1.now) (read_only slot2.now) (read_only slot3.now) (read_only scratch.now) result }
 {
     let mut pool = [0.0f32; POOL];
-    let reading = message::read(message, &mut pool);
-    let read = reading.answer;
-    let MessageAnswer::Done = read else {
-        return reach_told(read, Answer::Done, false);
+    let recipe = match message::read(message, &mut pool) {
+        Ok(recipe) => recipe,
+        Err(refused) => return nup_reach_answer::from(refused),
     };
-    let recipe = reading.recipe;
     let size = Size {
         width: width as usize,
         height: height as usize,
     };
-    let reached = reaches_by_kind(
+    nup_reach_answer::from(reaches_by_kind(
         recipe, kind, &pool, size, source, slot1, slot2, slot3, scratch,
-    );
-    let answer = reached.answer;
-    reach_told(MessageAnswer::Done, answer, reached.yes)
+    ))
 }

@@ -4,21 +4,21 @@ ghost use Rattle.sheet.specs.Contract.{lent, Filtered};
 ghost use Rattle.turbulence.specs.Turbulence.{drawn};
 ghost use Rattle.nuprikhen.specs.Noise.{turbulence_of, named_kind, noise_answer, Drawn};
 
-use crate::{nup_answer, told};
-use sheet::{Answer, Refusal};
+use crate::nup_answer;
+use sheet::Refusal;
 use turbulence::Turbulence;
 
 // Whether both numbers name a case: no stitching, and one of the two kinds.
-fn test_named(stitch: u8, kind: u8) -> Answer
+fn test_named(stitch: u8, kind: u8) -> Result<(), Refusal>
     ensures { result ≡ named_kind stitch kind }
 {
     if 0 < stitch {
-        return Answer::Refused(Refusal::Range, 0);
+        return Err(Refusal::Range);
     }
     if 1 < kind {
-        return Answer::Refused(Refusal::Range, 0);
+        return Err(Refusal::Range);
     }
-    Answer::Done
+    Ok(())
 }
 
 // Turbulence where both numbers name a case; others are refused after the other tests.
@@ -29,15 +29,12 @@ fn apply_named(
     width: usize,
     height: usize,
     dest: &mut [u8],
-) -> Answer
+) -> Result<(), Refusal>
     ensures { Filtered (noise_answer stitch kind t width height dest.old) result (drawn t width height) (lent dest.old dest.new) }
 {
-    let sheets = sheet::test1(width, height, dest.len());
-    let tested = sheet::and_then(sheets, turbulence::test(t));
-    let named = sheet::and_then(tested, test_named(stitch, kind));
-    let Answer::Done = named else {
-        return named;
-    };
+    sheet::test(width, height, &[dest.len()])?;
+    turbulence::test(t)?;
+    test_named(stitch, kind)?;
     turbulence::apply(t, width, height, dest)
 }
 
@@ -61,15 +58,15 @@ pub extern "C" fn nup_turbulence(
     ensures { Drawn stitch_tiles kind (turbulence_of offset_x offset_y sx sy base_frequency_x base_frequency_y num_octaves seed kind) width height result (lent dest.old dest.new) }
 {
     let t = Turbulence {
-        offset_x: offset_x,
-        offset_y: offset_y,
-        sx: sx,
-        sy: sy,
-        base_frequency_x: base_frequency_x,
-        base_frequency_y: base_frequency_y,
-        num_octaves: num_octaves,
-        seed: seed,
+        offset_x,
+        offset_y,
+        sx,
+        sy,
+        base_frequency_x,
+        base_frequency_y,
+        num_octaves,
+        seed,
         fractal_noise: kind == 1,
     };
-    told(apply_named(stitch_tiles, kind, t, width as usize, height as usize, dest))
+    nup_answer::from(apply_named(stitch_tiles, kind, t, width as usize, height as usize, dest))
 }

@@ -3,9 +3,7 @@ use Rattle.std.specs.Prelude.{ℕ, ◌+◌, Bool, true, false, cond, List, [], �
 use Rattle.std.specs.Float.Ieee.Scale.{finite}
 use Rattle.floats.specs.Constants.{c65536, m65536}
 use Rattle.floats.specs.Order.{within}
-use Rattle.sheet.specs.declared.Answer.{Answer}
-use Rattle.sheet.specs.declared.Answer.TheVariants.{Done}
-use Rattle.sheet.specs.Answer.{refusal}
+use Rattle.sheet.specs.Answer.{Answer, Done, refusal}
 use Rattle.pool.specs.declared.Numbers.{Numbers}
 
 -- within -65,536..=65,536

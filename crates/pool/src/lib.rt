@@ -4,13 +4,13 @@
 ghost use Rattle.std.specs.Prelude.{◌≡◌};
 ghost use Rattle.pool.specs.Pool.{in_range, all_finite, all_in_range, numbers_answer, is_in, numbers_of, range_answer};
 
-use sheet::{Answer, Refusal};
+use sheet::Refusal;
 
 // The largest size of a number.
 const NUMBER_LIMIT: f32 = 65536.0;
 
 // A range of the pool, which may lie anywhere.
-#[derive(Clone, Copy)]
+#[derive(Clone, Copy, Debug, PartialEq, Eq)]
 pub struct Numbers {
     pub start: u32,
     pub count: u32,
@@ -27,72 +27,56 @@ pub fn is_number(x: f32) -> bool
 pub fn all_finite(numbers: &[f32]) -> bool
     ensures { result ≡ all_finite numbers.now }
 {
-    let mut i = 0;
-    while i < numbers.len() {
-        if !floats::is_finite(numbers[i]) {
-            return false;
-        }
-        i += 1;
-    }
-    true
+    numbers.iter().all(|&x| floats::is_finite(x))
 }
 
 // Test 5 of numbers within -65,536..=65,536.
 pub fn all_in_range(numbers: &[f32]) -> bool
     ensures { result ≡ all_in_range numbers.now }
 {
-    let mut i = 0;
-    while i < numbers.len() {
-        if !is_number(numbers[i]) {
-            return false;
-        }
-        i += 1;
-    }
-    true
+    numbers.iter().all(|&x| is_number(x))
 }
 
 // Tests 4 and 5 of numbers within -65,536..=65,536.
-pub fn test(numbers: &[f32]) -> Answer
+pub fn test(numbers: &[f32]) -> Result<(), Refusal>
     ensures { result ≡ numbers_answer numbers.now }
 {
     if !all_finite(numbers) {
-        return Answer::Refused(Refusal::NotFinite, 0);
+        return Err(Refusal::NotFinite);
     }
     if !all_in_range(numbers) {
-        return Answer::Refused(Refusal::Range, 0);
+        return Err(Refusal::Range);
     }
-    Answer::Done
+    Ok(())
 }
 
-// Whether the range lies in a pool of n numbers.
-pub fn is_in(numbers: Numbers, n: usize) -> bool
-    ensures { result ≡ is_in numbers n }
-{
-    let count = numbers.count as usize;
-    if n < count {
-        return false;
+impl Numbers {
+    // Whether the range lies in a pool of n numbers.
+    #[tactic(auto, unfolding(crate::specs::Pool::is_in))]
+    pub fn is_in(self, n: usize) -> bool
+        ensures { result ≡ is_in self n }
+    {
+        self.start as usize + self.count as usize <= n
     }
-    (numbers.start as usize) <= n - count
-}
 
-// The numbers of a range; none where it does not lie in the pool.
-pub fn part(numbers: Numbers, pool: &[f32]) -> &[f32]
-    ensures { result.now ≡ numbers_of numbers pool.now }
-{
-    if !is_in(numbers, pool.len()) {
-        return &pool[0..0];
+    // The numbers of the range; none where it does not lie in the pool.
+    pub fn part(self, pool: &[f32]) -> &[f32]
+        ensures { result.now ≡ numbers_of self pool.now }
+    {
+        if !self.is_in(pool.len()) {
+            return &[];
+        }
+        let start = self.start as usize;
+        &pool[start..start + self.count as usize]
     }
-    let start = numbers.start as usize;
-    let end = start + (numbers.count as usize);
-    &pool[start..end]
-}
 
-// Tests 3, 4 and 5 of a range of the pool.
-pub fn test_range(numbers: Numbers, pool: &[f32]) -> Answer
-    ensures { result ≡ range_answer numbers pool.now }
-{
-    if !is_in(numbers, pool.len()) {
-        return Answer::Refused(Refusal::Shape, 0);
+    // Tests 3, 4 and 5 of the range.
+    pub fn test(self, pool: &[f32]) -> Result<(), Refusal>
+        ensures { result ≡ range_answer self pool.now }
+    {
+        if !self.is_in(pool.len()) {
+            return Err(Refusal::Shape);
+        }
+        test(self.part(pool))
     }
-    test(part(numbers, pool))
 }

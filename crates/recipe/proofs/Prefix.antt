@@ -1,32 +1,37 @@
 -- The answer of the first n steps, by the prefix: a refusal stands, and Done means that each step passed.
 use Prim.Native.Nat.{ℕ, zero, suc, ◌+◌, ◌-◌, ◌≤◌, ◌<◌}
-use mathlib.Core.Path.{◌≡◌, refl, sym, ◌∙◌}
+use mathlib.Core.Path.{◌≡◌, refl, ap, ◌∙◌}
+use mathlib.Core.Bool.{Bool, true, false, cond}
 use mathlib.Core.List.{List}
 use mathlib.Core.Logic.{⊎_elim}
 use native.Mathlib.Nat.{add-zero, add-suc, not-suc-le-zero, le_of_suc-le-suc, eq-or-lt_of_le}
 use native.Mathlib.Numerals.{add-one}
 use native.Mathlib.Omega.{arith}
-use borrow.Author.Tests.{eqb-false, ne_eqb, le-ltb}
+use borrow.Author.Tests.{ne_eqb, le-ltb}
+use lib.ListN.{length, set, length-set}
 use lib.Ieee.{Float}
-use Rattle.sheet.specs.declared.Answer.{Answer}
-use Rattle.sheet.specs.declared.Answer.TheVariants.{Done, Refused}
-use Rattle.sheet.specs.Answer.{IsRefusal}
+use lib.Dec.{eqb}
+use Rattle.std.specs.Prelude.{Ok, Err, is_some, not}
+use Rattle.sheet.specs.Answer.{Answer, Done, IsRefusal}
 use Rattle.sheet.proofs.Answers.{stays, both_done}
+use Rattle.sheet.specs.declared.Refusal.{Refusal}
 use Rattle.recipe.specs.declared.Kind.{Kind}
 use Rattle.recipe.specs.declared.Recipe.{Recipe}
 use Rattle.recipe.specs.declared.Step.{Step}
-use Rattle.recipe.specs.declared.contents.Contents.{Contents}
-use Rattle.recipe.specs.Contents.{holding, work_makes, at_first, contents}
+use Rattle.recipe.specs.Contents.{Content, Contents, is_sheet, holding, work_makes, at_first, contents}
 use Rattle.recipe.specs.Tests.{step_answer, at_step, step_of, step_limit, steps_answer, recipe_answer}
 
 -- a step's index changes no Done
-step_done : (i : ℕ) (t : Answer) → at_step i t ≡ Done → t ≡ Done
-step_done i Done e = refl
-step_done i (Refused r j) e = let z : ◌≡◌ {A = ℕ} 0 1 = cc in absurd (eqb-false 0 1 refl z)
+pub step_done : (i : ℕ) (t : Answer) → at_step i t ≡ Done → t ≡ Done
+step_done i (Ok _) e = refl
+step_done i (Err r) e = cc
 
-step_refuses : (i : ℕ) (t : Answer) → IsRefusal t → IsRefusal (at_step i t)
-step_refuses i Done h = h
-step_refuses i (Refused r j) h = h
+-- ---- what is made is a sheet, or is none
+pub no_sheet : (c : Content) {t : Bool} → is_some c ≡ not t → t ≡ true → is_sheet c ≡ false
+no_sheet c e z = rw z at e
+
+pub a_sheet : (c : Content) {t : Bool} → is_some c ≡ not t → t ≡ false → is_sheet c ≡ true
+a_sheet c e z = rw z at e
 
 module _ (f : ℕ → Step) (x : Contents) (pool : List Float) where
   pub contents_none : contents f x 0 ≡ x
@@ -46,20 +51,20 @@ module _ (f : ℕ → Step) (x : Contents) (pool : List Float) where
   refusal_stands n zero h = rw add-zero
   refusal_stands n (suc m) h = rw (add-suc, refusal_stands n m h) (stays (steps_answer f x pool n) h _ _)
 
-  -- at step i, with the slots' contents y and the step's answer t
+  -- at step i, with the slots' contents y and the step's own answer t
   module _ (i : ℕ) {y : Contents} {t : Answer} (d : steps_answer f x pool i ≡ Done) (c : y ≡ contents f x i) (e : t ≡ step_answer (f i) pool y) where
-    pub one_more_done : t ≡ Done → steps_answer f x pool (i + 1) ≡ Done
-    unfolding steps_answer
-    one_more_done z = rw (add-one, d, ← c, ← e, z)
-
     one_more : steps_answer f x pool (suc i) ≡ at_step i t
     unfolding steps_answer
     one_more = rw (d, ← c, ← e)
 
-    pub refused_at : (count : ℕ) → i < count → IsRefusal t → at_step i t ≡ steps_answer f x pool count
-    refused_at count l h =
-        let z : count ≡ suc i + (count - suc i) = omega arith in
-        rw z (sym (refusal_stands (suc i) (count - suc i) (rw one_more (step_refuses i t h)) ∙ one_more))
+    pub one_more_done : t ≡ Done → steps_answer f x pool (i + 1) ≡ Done
+    one_more_done z = rw add-one (one_more ∙ ap (at_step i) z)
+
+    pub refused_at : (count : ℕ) → i < count → {r : Refusal} → t ≡ Err r → steps_answer f x pool count ≡ Err (record { refusal = r; step = i })
+    refused_at count l z =
+        let n : count ≡ suc i + (count - suc i) = omega arith in
+        let q = one_more ∙ ap (at_step i) z in
+        rw n (refusal_stands (suc i) (count - suc i) (rw q tt) ∙ q)
 
   pub each_done : (n : ℕ) → steps_answer f x pool n ≡ Done → (i : ℕ) → i < n → step_answer (f i) pool (contents f x i) ≡ Done
   unfolding steps_answer
@@ -72,3 +77,13 @@ module _ (f : ℕ → Step) (x : Contents) (pool : List Float) where
 pub count_passed : (r : Recipe) (k : Kind) (pool : List Float) {x : Contents} → x ≡ at_first k → (r.count ≡ 0 → ⊥) → r.count ≤ step_limit → steps_answer (step_of r) x pool r.count ≡ recipe_answer r k pool
 unfolding recipe_answer
 count_passed r k pool e n l = rw (ne_eqb r.count 0 n, le-ltb step_limit r.count l, e)
+
+-- no step changes how many slots there are
+pub contents_length : (f : ℕ → Step) (k : Kind) (n : ℕ) → length (contents f (at_first k) n) ≡ 4
+unfolding contents
+contents_length f k zero = refl
+contents_length f k (suc n) = held_length (eqb (f n).output 0) (f n).output _ _ (contents_length f k n)
+  where
+    held_length : (t : Bool) (o : ℕ) (c : Content) (x : Contents) → length x ≡ 4 → length (cond t x (set x o c)) ≡ 4
+    held_length true o c x e = e
+    held_length false o c x e = length-set x o c ∙ e

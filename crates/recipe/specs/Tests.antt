@@ -1,9 +1,7 @@
 -- What a run is answered: docs/LAW.md's tests 1, 2 and 6, then for each step in turn 7, 8 and 3, 4, 5.
-use Rattle.std.specs.Prelude.{ℕ, zero, suc, Bool, true, false, cond, List, get_or, eqb, ltb, Float}
+use Rattle.std.specs.Prelude.{ℕ, zero, suc, Bool, true, false, cond, List, get_or, eqb, ltb, Float, Result, Ok, Err, ⊤}
 use Rattle.std.specs.Float.{nan}
-use Rattle.sheet.specs.declared.Answer.{Answer}
-use Rattle.sheet.specs.declared.Answer.TheVariants.{Done, Refused}
-use Rattle.sheet.specs.Answer.{refusal, and_then}
+use Rattle.sheet.specs.Answer.{Answer, Done, refusal, refusal_number, and_then}
 use Rattle.sheet.specs.Size.{sheets_answer}
 use Rattle.morphology.specs.declared.operator.MorphologyOperator.TheVariants.{Dilate}
 use Rattle.morphology.specs.Morphology.{radii_answer}
@@ -19,10 +17,10 @@ use Rattle.recipe.specs.declared.Work.{Work}
 use Rattle.recipe.specs.declared.Work.TheVariants.{Morphology, Arithmetic, ColorMatrix, ComponentTransfer, ConvolveMatrix, DisplacementMap, Turbulence, DiffuseLighting, SpecularLighting}
 use Rattle.recipe.specs.declared.Inputs.{Inputs}
 use Rattle.recipe.specs.declared.Inputs.TheVariants.{None, One, Two}
+use Rattle.recipe.specs.declared.Refused.{Refused}
 use Rattle.recipe.specs.declared.Step.{Step}
 use Rattle.recipe.specs.declared.Recipe.{Recipe}
-use Rattle.recipe.specs.declared.contents.Contents.{Contents}
-use Rattle.recipe.specs.Contents.{content_in, is_sheet, inputs_of, work_makes, at_first, contents}
+use Rattle.recipe.specs.Contents.{Contents, content_in, is_sheet, inputs_of, work_makes, at_first, contents}
 
 -- tests 3, 4 and 5, as in the single call; one more primitive adds a line
 abbrev pub work_answer : Work → List Float → Answer
@@ -62,10 +60,27 @@ kind_answer s x = cond (is_sheet (work_makes s.work x)) Done (refusal 8)
 unfoldable pub step_answer : Step → List Float → Contents → Answer
 step_answer s pool x = and_then (slot_answer s x) (and_then (kind_answer s x) (work_answer s.work pool))
 
--- a refusal with the step's index
-abbrev pub at_step : ℕ → Answer → Answer
-at_step i Done = Done
-at_step i (Refused r j) = Refused r i
+-- ---- what a run is answered: nothing more where it is done, and else a refusal and the step that it is about
+abbrev pub RunAnswer : Type 0
+RunAnswer = Result ⊤ Refused
+
+-- an answer of step i
+abbrev pub at_step : ℕ → Answer → RunAnswer
+at_step i (Ok _) = Done
+at_step i (Err r) = Err (record { refusal = r; step = i })
+
+-- a refusal that is about no step has the index 0
+abbrev pub whole : Answer → RunAnswer
+whole a = at_step 0 a
+
+-- docs/LAW.md's number of an answer
+abbrev pub number : RunAnswer → ℕ
+number (Ok _) = 0
+number (Err r) = refusal_number r.refusal
+
+abbrev pub step_index : RunAnswer → ℕ
+step_index (Ok _) = 0
+step_index (Err r) = r.step
 
 -- ---- the tests of a recipe
 -- what the logic puts past the end of a recipe's list of steps; a count of at most step_limit is tested first, so no run reads it
@@ -76,7 +91,7 @@ abbrev pub step_of : Recipe → ℕ → Step
 step_of r i = get_or r.steps i no_step
 
 -- the first refusal among the first n steps
-unfoldable pub steps_answer : (ℕ → Step) → Contents → List Float → ℕ → Answer
+unfoldable pub steps_answer : (ℕ → Step) → Contents → List Float → ℕ → RunAnswer
 steps_answer f x pool zero = Done
 steps_answer f x pool (suc n) = and_then (steps_answer f x pool n) (at_step n (step_answer (f n) pool (contents f x n)))
 
@@ -84,12 +99,12 @@ abbrev pub step_limit : ℕ
 step_limit = 16
 
 -- test 6, then the steps
-unfoldable pub recipe_answer : Recipe → Kind → List Float → Answer
+unfoldable pub recipe_answer : Recipe → Kind → List Float → RunAnswer
 recipe_answer r k pool =
-    cond (eqb r.count 0) (refusal 6)
-    (cond (ltb step_limit r.count) (refusal 6)
+    cond (eqb r.count 0) (whole (refusal 6))
+    (cond (ltb step_limit r.count) (whole (refusal 6))
     (steps_answer (step_of r) (at_first k) pool r.count))
 
 -- a run of sheets of these lengths: tests 1 and 2, then the recipe
-unfoldable pub run_answer : Recipe → Kind → List Float → ℕ → ℕ → List ℕ → Answer
-run_answer r k pool w h lengths = and_then (sheets_answer w h lengths) (recipe_answer r k pool)
+unfoldable pub run_answer : Recipe → Kind → List Float → ℕ → ℕ → List ℕ → RunAnswer
+run_answer r k pool w h lengths = and_then (whole (sheets_answer w h lengths)) (recipe_answer r k pool)

@@ -1,217 +1,119 @@
 // What the slots hold while a recipe is tested: tests 7 and 8.
 ghost use Rattle.std.specs.Prelude.{◌≡◌};
-ghost use Rattle.recipe.specs.Contents.{content_in, holding, is_sheet, of_straight, of_premultiplied, of_either, work_makes, at_first};
+ghost use Rattle.recipe.specs.Contents.{content_in, holding, of_kind, work_makes, at_first};
 ghost use Rattle.recipe.specs.Tests.{input_ok, inputs_ok, slots_ok};
 
 use crate::{Inputs, Kind, Work};
 
-// What a slot holds: nothing yet, or a sheet of a kind.
-#[derive(Clone, Copy)]
-pub enum Content {
-    Nothing,
-    Straight,
-    Premultiplied,
-}
-
-// What the slots 0 to 3 hold.
+// What the slots 0 to 3 hold: nothing yet, or a sheet of a kind.
 #[derive(Clone, Copy)]
 pub struct Contents {
-    pub zero: Content,
-    pub one: Content,
-    pub two: Content,
-    pub three: Content,
+    pub slots: [Option<Kind>; 4],
 }
 
-// Before the first step only slot 0 holds a sheet, of the declared kind.
-pub fn at_first(kind: Kind) -> Contents
-    ensures { result ≡ at_first kind }
+// `made` where `input` is of the kind that is wanted, and nothing otherwise.
+fn of_kind(wanted: Kind, input: Option<Kind>, made: Option<Kind>) -> Option<Kind>
+    ensures { result ≡ of_kind wanted input made }
 {
-    let zero = match kind {
-        Kind::Straight => Content::Straight,
-        Kind::Premultiplied => Content::Premultiplied,
-    };
-    Contents {
-        zero,
-        one: Content::Nothing,
-        two: Content::Nothing,
-        three: Content::Nothing,
+    match (wanted, input?) {
+        (Kind::Straight, Kind::Straight) => made,
+        (Kind::Premultiplied, Kind::Premultiplied) => made,
+        _ => None,
     }
 }
 
-// A slot outside 0..=3 holds nothing.
-fn content_in(slot: u32, contents: Contents) -> Content
-    ensures { result ≡ content_in slot contents }
-{
-    if slot == 0 {
-        return contents.zero;
-    }
-    if slot == 1 {
-        return contents.one;
-    }
-    if slot == 2 {
-        return contents.two;
-    }
-    if slot == 3 {
-        return contents.three;
-    }
-    Content::Nothing
-}
-
-// The contents with a new one in slot 1, 2 or 3; any other slot changes nothing.
-pub fn hold(slot: u32, new: Content, contents: Contents) -> Contents
-    ensures { result ≡ holding slot new contents }
-{
-    let zero = contents.zero;
-    let one = contents.one;
-    let two = contents.two;
-    let three = contents.three;
-    if slot == 1 {
-        return Contents {
-            zero,
-            one: new,
-            two,
-            three,
-        };
-    }
-    if slot == 2 {
-        return Contents {
-            zero,
-            one,
-            two: new,
-            three,
-        };
-    }
-    if slot == 3 {
-        return Contents {
-            zero,
-            one,
-            two,
-            three: new,
-        };
-    }
-    contents
-}
-
-pub fn is_sheet(content: Content) -> bool
-    ensures { result ≡ is_sheet content }
-{
-    match content {
-        Content::Nothing => false,
-        Content::Straight => true,
-        Content::Premultiplied => true,
-    }
-}
-
-// `made` where `input` is straight, and nothing otherwise.
-fn of_straight(input: Content, made: Content) -> Content
-    ensures { result ≡ of_straight input made }
-{
-    match input {
-        Content::Nothing => Content::Nothing,
-        Content::Straight => made,
-        Content::Premultiplied => Content::Nothing,
-    }
-}
-
-// `made` where `input` is premultiplied, and nothing otherwise.
-fn of_premultiplied(input: Content, made: Content) -> Content
-    ensures { result ≡ of_premultiplied input made }
-{
-    match input {
-        Content::Nothing => Content::Nothing,
-        Content::Straight => Content::Nothing,
-        Content::Premultiplied => made,
-    }
-}
-
-// `made` where `input` is a sheet of either kind, and nothing otherwise.
-fn of_either(input: Content, made: Content) -> Content
-    ensures { result ≡ of_either input made }
-{
-    match input {
-        Content::Nothing => Content::Nothing,
-        Content::Straight => made,
-        Content::Premultiplied => made,
-    }
-}
-
-// A convolution takes straight colour where it preserves alpha, and premultiplied colour where not.
-fn convolved(preserve_alpha: bool, input: Content) -> Content
-    ensures { result ≡ Rattle.recipe.specs.Contents.convolved preserve_alpha input }
-{
-    if preserve_alpha {
-        of_straight(input, Content::Premultiplied)
-    } else {
-        of_premultiplied(input, Content::Premultiplied)
-    }
-}
-
-// What a step's work makes of the slots that it reads: nothing where an input is of the wrong kind.
-pub fn work_makes(work: Work, contents: Contents) -> Content
-    ensures { result ≡ work_makes work contents }
-{
-    match work {
-        Work::Morphology(a, _, _, _) => {
-            of_premultiplied(content_in(a, contents), Content::Premultiplied)
-        }
-        Work::Arithmetic(a, b, _, _, _, _) => of_premultiplied(
-            content_in(a, contents),
-            of_premultiplied(content_in(b, contents), Content::Premultiplied),
-        ),
-        Work::ColorMatrix(a, _) => of_straight(content_in(a, contents), Content::Straight),
-        Work::ComponentTransfer(a, _, _, _, _) => {
-            of_straight(content_in(a, contents), Content::Straight)
-        }
-        Work::ConvolveMatrix(a, matrix) => {
-            convolved(matrix.preserve_alpha, content_in(a, contents))
-        }
-        Work::DisplacementMap(a, b, _, _, _, _, _) => {
-            of_straight(content_in(b, contents), content_in(a, contents))
-        }
-        Work::Turbulence(_) => Content::Straight,
-        Work::DiffuseLighting(a, _, _, _, _) => {
-            of_either(content_in(a, contents), Content::Straight)
-        }
-        Work::SpecularLighting(a, _, _, _, _, _) => {
-            of_either(content_in(a, contents), Content::Premultiplied)
+impl Contents {
+    // Before the first step only slot 0 holds a sheet, of the declared kind.
+    pub fn at_first(kind: Kind) -> Contents
+        ensures { result.slots ≡ at_first kind }
+    {
+        Contents {
+            slots: [Some(kind), None, None, None],
         }
     }
-}
 
-// An input is not the output, and holds a sheet.
-fn input_ok(slot: u32, output: u32, contents: Contents) -> bool
-    ensures { result ≡ input_ok slot output contents }
-{
-    if slot == output {
-        return false;
+    // A slot outside 0..=3 holds nothing.
+    fn of(self, slot: u32) -> Option<Kind>
+        ensures { result ≡ content_in slot self.slots }
+    {
+        if 3 < slot {
+            return None;
+        }
+        self.slots[slot as usize]
     }
-    is_sheet(content_in(slot, contents))
-}
 
-fn inputs_ok(inputs: Inputs, output: u32, contents: Contents) -> bool
-    ensures { result ≡ inputs_ok inputs output contents }
-{
-    match inputs {
-        Inputs::None => true,
-        Inputs::One(a) => input_ok(a, output, contents),
-        Inputs::Two(a, b) => {
-            if !input_ok(a, output, contents) {
-                return false;
+    // A new content in slot 1, 2 or 3; any other slot changes nothing.
+    pub fn hold(&mut self, slot: u32, new: Option<Kind>)
+        ensures { self.new.slots ≡ holding slot new self.old.slots }
+    {
+        if 0 < slot && slot <= 3 {
+            self.slots[slot as usize] = new;
+        }
+    }
+
+    // What a step's work makes of the slots that it reads: nothing where an input is of the wrong kind.
+    pub fn made_by(self, work: Work) -> Option<Kind>
+        ensures { result ≡ work_makes work self.slots }
+    {
+        let straight = Some(Kind::Straight);
+        let premultiplied = Some(Kind::Premultiplied);
+        match work {
+            Work::Morphology(a, _, _, _) => {
+                of_kind(Kind::Premultiplied, self.of(a), premultiplied)
             }
-            input_ok(b, output, contents)
+            Work::Arithmetic(a, b, _, _, _, _) => of_kind(
+                Kind::Premultiplied,
+                self.of(a),
+                of_kind(Kind::Premultiplied, self.of(b), premultiplied),
+            ),
+            Work::ColorMatrix(a, _) => of_kind(Kind::Straight, self.of(a), straight),
+            Work::ComponentTransfer(a, _, _, _, _) => {
+                of_kind(Kind::Straight, self.of(a), straight)
+            }
+            Work::ConvolveMatrix(a, matrix) => {
+                let wanted = if matrix.preserve_alpha {
+                    Kind::Straight
+                } else {
+                    Kind::Premultiplied
+                };
+                of_kind(wanted, self.of(a), premultiplied)
+            }
+            Work::DisplacementMap(a, b, _, _, _, _, _) => {
+                of_kind(Kind::Straight, self.of(b), self.of(a))
+            }
+            Work::Turbulence(_) => straight,
+            Work::DiffuseLighting(a, _, _, _, _) => self.of(a).and(straight),
+            Work::SpecularLighting(a, _, _, _, _, _) => self.of(a).and(premultiplied),
         }
     }
-}
 
-// Test 7.
-pub fn slots_ok(inputs: Inputs, output: u32, contents: Contents) -> bool
-    ensures { result ≡ slots_ok inputs output contents }
-{
-    if output == 0 {
-        return false;
+    // An input is not the output, and holds a sheet.
+    fn input_ok(self, slot: u32, output: u32) -> bool
+        ensures { result ≡ input_ok slot output self.slots }
+    {
+        slot != output && self.of(slot).is_some()
     }
-    if 3 < output {
-        return false;
+
+    fn inputs_ok(self, inputs: Inputs, output: u32) -> bool
+        ensures { result ≡ inputs_ok inputs output self.slots }
+    {
+        match inputs {
+            Inputs::None => true,
+            Inputs::One(a) => self.input_ok(a, output),
+            Inputs::Two(a, b) => self.input_ok(a, output) && self.input_ok(b, output),
+        }
     }
-    inputs_ok(inputs, output, contents)
+
+    // Test 7.
+    pub fn slots_ok(self, inputs: Inputs, output: u32) -> bool
+        ensures { result ≡ slots_ok inputs output self.slots }
+    {
+        if output == 0 {
+            return false;
+        }
+        if 3 < output {
+            return false;
+        }
+        self.inputs_ok(inputs, output)
+    }
 }

@@ -6,6 +6,7 @@ mod tests;
 
 ghost use Rattle.std.specs.Prelude.{◌≡◌};
 ghost use Rattle.recipe.specs.Contents.{inputs_of};
+ghost use Rattle.recipe.specs.Numbered.{kind_by};
 
 use color_matrix::ColorMatrix;
 use component_transfer::TransferFunction;
@@ -13,14 +14,34 @@ use convolve_matrix::ConvolveMatrix;
 use displacement_map::ColorChannel;
 use lighting::{Color, LightSource};
 use morphology::MorphologyOperator;
+use sheet::Refusal;
 pub use tests::run_answer;
 use turbulence::Turbulence;
 
 // How the colours of a sheet are given.
-#[derive(Clone, Copy)]
+#[derive(Clone, Copy, Debug, PartialEq, Eq)]
 pub enum Kind {
     Straight,
     Premultiplied,
+}
+
+// A number that no kind has.
+#[derive(Clone, Copy, Debug, PartialEq, Eq)]
+pub struct UnknownKind(pub u32);
+
+// The kind of a number: 0 is straight and 1 premultiplied.
+impl TryFrom<u32> for Kind {
+    type Error = UnknownKind;
+
+    ghost try_from_gives = { λ number kind. kind ≡ kind_by number };
+
+    fn try_from(number: u32) -> Result<Kind, UnknownKind> {
+        match number {
+            0 => Ok(Kind::Straight),
+            1 => Ok(Kind::Premultiplied),
+            _ => Err(UnknownKind(number)),
+        }
+    }
 }
 
 // What a step works out: the slots that it reads, whose numbers may be anything, then resvg's parameters.
@@ -45,19 +66,21 @@ pub enum Inputs {
     Two(u32, u32),
 }
 
-pub fn inputs_of(work: Work) -> Inputs
-    ensures { result ≡ inputs_of work }
-{
-    match work {
-        Work::Morphology(a, _, _, _) => Inputs::One(a),
-        Work::Arithmetic(a, b, _, _, _, _) => Inputs::Two(a, b),
-        Work::ColorMatrix(a, _) => Inputs::One(a),
-        Work::ComponentTransfer(a, _, _, _, _) => Inputs::One(a),
-        Work::ConvolveMatrix(a, _) => Inputs::One(a),
-        Work::DisplacementMap(a, b, _, _, _, _, _) => Inputs::Two(a, b),
-        Work::Turbulence(_) => Inputs::None,
-        Work::DiffuseLighting(a, _, _, _, _) => Inputs::One(a),
-        Work::SpecularLighting(a, _, _, _, _, _) => Inputs::One(a),
+impl Work {
+    pub fn inputs(self) -> Inputs
+        ensures { result ≡ inputs_of self }
+    {
+        match self {
+            Work::Morphology(a, _, _, _) => Inputs::One(a),
+            Work::Arithmetic(a, b, _, _, _, _) => Inputs::Two(a, b),
+            Work::ColorMatrix(a, _) => Inputs::One(a),
+            Work::ComponentTransfer(a, _, _, _, _) => Inputs::One(a),
+            Work::ConvolveMatrix(a, _) => Inputs::One(a),
+            Work::DisplacementMap(a, b, _, _, _, _, _) => Inputs::Two(a, b),
+            Work::Turbulence(_) => Inputs::None,
+            Work::DiffuseLighting(a, _, _, _, _) => Inputs::One(a),
+            Work::SpecularLighting(a, _, _, _, _, _) => Inputs::One(a),
+        }
     }
 }
 
@@ -84,4 +107,19 @@ pub const STEP_LIMIT: usize = 16;
 pub struct Recipe {
     pub steps: [Step; STEP_LIMIT],
     pub count: usize,
+}
+
+// Why a run is turned away, and the index of the step that the refusal is about: 0 where it is about none.
+#[derive(Clone, Copy, Debug, PartialEq, Eq)]
+pub struct Refused {
+    pub refusal: Refusal,
+    pub step: u8,
+}
+
+impl From<Refusal> for Refused {
+    ghost from_gives = { λ refusal refused. refused ≡ (record { refusal = refusal; step = 0 }) };
+
+    fn from(refusal: Refusal) -> Refused {
+        Refused { refusal, step: 0 }
+    }
 }

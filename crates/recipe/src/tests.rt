@@ -1,14 +1,15 @@
 // The tests of a run, in docs/LAW.md's order; none looks at a pixel.
 ghost use Rattle.std.specs.Prelude.{◌≡◌, [], ◌∷◌, ◌<◌};
 ghost use Rattle.sheet.specs.Size.{sheets_answer};
-ghost use Rattle.recipe.specs.Tests.{step_limit, work_answer, step_answer, at_step, recipe_answer, run_answer};
+ghost use Rattle.recipe.specs.Tests.{step_limit, work_answer, step_answer, recipe_answer, run_answer};
 
-use crate::contents::{Contents, at_first, hold, is_sheet, slots_ok, work_makes};
-use crate::{Kind, Recipe, STEP_LIMIT, Step, Work, inputs_of};
-use sheet::{Answer, Refusal, Size};
+use crate::contents::Contents;
+use crate::{Kind, Recipe, Refused, STEP_LIMIT, Step, Work};
+use component_transfer::Channel;
+use sheet::{Refusal, Size};
 
 // Tests 3, 4 and 5 of a step's parameters: the single call's own.
-fn work_answer(work: Work, pool: &[f32]) -> Answer
+fn work_answer(work: Work, pool: &[f32]) -> Result<(), Refusal>
     ensures { result ≡ work_answer work pool.now }
 {
     match work {
@@ -16,7 +17,8 @@ fn work_answer(work: Work, pool: &[f32]) -> Answer
         Work::Arithmetic(_, _, k1, k2, k3, k4) => composite::test(k1, k2, k3, k4),
         Work::ColorMatrix(_, matrix) => color_matrix::test(matrix, pool),
         Work::ComponentTransfer(_, r, g, b, a) => {
-            component_transfer::test(r, pool, g, pool, b, pool, a, pool)
+            let [r, g, b, a] = [r, g, b, a].map(|function| Channel { function, pool });
+            component_transfer::test(r, g, b, a)
         }
         Work::ConvolveMatrix(_, matrix) => convolve_matrix::test(matrix, pool),
         Work::DisplacementMap(_, _, _, _, sx, sy, scale) => displacement_map::test(sx, sy, scale),
@@ -31,80 +33,41 @@ fn work_answer(work: Work, pool: &[f32]) -> Answer
 }
 
 // The tests of one step: 7, 8, then 3, 4 and 5.
-fn step_answer(step: Step, pool: &[f32], contents: Contents) -> Answer
-    ensures { result ≡ step_answer step pool.now contents }
+fn step_answer(step: Step, pool: &[f32], contents: Contents) -> Result<(), Refusal>
+    ensures { result ≡ step_answer step pool.now contents.slots }
 {
-    let output = step.output;
-    let work = step.work;
-    if !slots_ok(inputs_of(work), output, contents) {
-        return Answer::Refused(Refusal::Slot, 0);
+    if !contents.slots_ok(step.work.inputs(), step.output) {
+        return Err(Refusal::Slot);
     }
-    if !is_sheet(work_makes(work, contents)) {
-        return Answer::Refused(Refusal::Kind, 0);
+    if contents.made_by(step.work).is_none() {
+        return Err(Refusal::Kind);
     }
-    work_answer(work, pool)
-}
-
-// An answer with the index of the step that it is about.
-fn at_step(i: usize, answer: Answer) -> Answer
-    requires { i < step_limit }
-    ensures { result ≡ at_step i answer }
-{
-    match answer {
-        Answer::Done => Answer::Done,
-        Answer::Refused(refusal, _) => Answer::Refused(refusal, i as u8),
-    }
+    work_answer(step.work, pool)
 }
 
 // Test 6, then the steps in order.
-fn recipe_answer(recipe: Recipe, kind: Kind, pool: &[f32]) -> Answer
+fn recipe_answer(recipe: Recipe, kind: Kind, pool: &[f32]) -> Result<(), Refused>
     ensures { result ≡ recipe_answer recipe kind pool.now }
 {
-    let count = recipe.count;
-    if count == 0 {
-        return Answer::Refused(Refusal::Steps, 0);
+    if recipe.count == 0 {
+        return Err(Refused::from(Refusal::Steps));
     }
-    if STEP_LIMIT < count {
-        return Answer::Refused(Refusal::Steps, 0);
+    if STEP_LIMIT < recipe.count {
+        return Err(Refused::from(Refusal::Steps));
     }
-    let mut contents = at_first(kind);
-    let mut i = 0;
-    while i < count {
+    let mut contents = Contents::at_first(kind);
+    for i in 0..recipe.count {
         let step = recipe.steps[i];
-        let output = step.output;
-        let work = step.work;
-        let tested = step_answer(step, pool, contents);
-        let Answer::Done = tested else {
-            return at_step(i, tested);
-        };
-        contents = hold(output, work_makes(work, contents), contents);
-        i += 1;
+        if let Err(refusal) = step_answer(step, pool, contents) {
+            return Err(Refused {
+                refusal,
+                step: i as u8,
+            });
+        }
+        let made = contents.made_by(step.work);
+        contents.hold(step.output, made);
     }
-    Answer::Done
-}
-
-// Tests 1 and 2 of the source, the slots and the scratch.
-fn sheets_answer(
-    size: Size,
-    source: usize,
-    slot1: usize,
-    slot2: usize,
-    slot3: usize,
-    scratch: usize,
-) -> Answer
-    ensures { result ≡ sheets_answer size.width size.height (source ∷ slot1 ∷ slot2 ∷ slot3 ∷ scratch ∷ []) }
-{
-    let tested = sheet::test3(size.width, size.height, source, slot1, slot2);
-    let Answer::Done = tested else {
-        return tested;
-    };
-    if slot3 != source {
-        return Answer::Refused(Refusal::Length, 0);
-    }
-    if scratch != source {
-        return Answer::Refused(Refusal::Length, 0);
-    }
-    Answer::Done
+    Ok(())
 }
 
 // What a run is answered, from the lengths of what is lent.
@@ -118,12 +81,13 @@ pub fn run_answer(
     slot2: usize,
     slot3: usize,
     scratch: usize,
-) -> Answer
+) -> Result<(), Refused>
     ensures { result ≡ run_answer recipe kind pool.now size.width size.height (source ∷ slot1 ∷ slot2 ∷ slot3 ∷ scratch ∷ []) }
 {
-    let sheets = sheets_answer(size, source, slot1, slot2, slot3, scratch);
-    let Answer::Done = sheets else {
-        return sheets;
-    };
+    sheet::test(
+        size.width,
+        size.height,
+        &[source, slot1, slot2, slot3, scratch],
+    )?;
     recipe_answer(recipe, kind, pool)
 }

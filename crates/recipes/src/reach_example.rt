@@ -9,32 +9,12 @@ use std::io;
 // Prints the source bytes that byte 3 of the result, pixel 0's alpha, changes with.
 pub fn show(rt: &impl Print) -> io::Result<()> {
     print!(rt; "reach: dilate twice, result byte 3 changes with source bytes")?;
-    let mut at = 0;
-    while at < 20 {
-        show_byte(rt, at)?;
-        at += 1;
+    for at in 0..20 {
+        if changes(at, 0) || changes(at, 100) {
+            print!(rt; " {at}")?;
+        }
     }
     println!(rt;)
-}
-
-// Prints the place of a source byte that shows.
-fn show_byte(rt: &impl Print, at: usize) -> io::Result<()>
-    requires { at < 20 }
-{
-    if shows(at) {
-        print!(rt; " {at}")?;
-    }
-    Ok(())
-}
-
-// Whether some value of source byte `at` changes the result, on a clear ground or on a grey one.
-fn shows(at: usize) -> bool
-    requires { at < 20 }
-{
-    if changes(at, 0) {
-        return true;
-    }
-    changes(at, 100)
 }
 
 // Whether some value of source byte `at` changes the result where all other bytes are `ground`.
@@ -43,13 +23,11 @@ fn changes(at: usize, ground: u8) -> bool
 {
     let mut source = [ground; 20];
     let before = result(&source, 0);
-    let mut value: u8 = 255;
-    while value > 4 {
+    for value in (5..=255).step_by(5) {
         source[at] = value;
         if result(&source, value) != before {
             return true;
         }
-        value -= 5;
     }
     false
 }
@@ -60,7 +38,7 @@ fn result(source: &[u8], junk: u8) -> u8 {
     let mut slot2 = [junk; 20];
     let mut slot3 = [junk; 20];
     let mut scratch = [junk; 20];
-    filter::run(
+    let _ = filter::run(
         dilate_twice(),
         Kind::Premultiplied,
         &[],
@@ -79,12 +57,14 @@ fn result(source: &[u8], junk: u8) -> u8 {
 
 // The source to slot 1, and slot 1 to slot 2.
 fn dilate_twice() -> Recipe {
-    let first = Step::new(Work::Morphology(0, MorphologyOperator::Dilate, 1.0, 0.0), 1);
-    let second = Step::new(Work::Morphology(1, MorphologyOperator::Dilate, 1.0, 0.0), 2);
-    let mut steps = [second; STEP_LIMIT];
-    steps[0] = first;
-    Recipe {
-        steps: steps,
-        count: 2,
-    }
+    let mut steps = [dilate(1, 2); STEP_LIMIT];
+    steps[0] = dilate(0, 1);
+    Recipe { steps, count: 2 }
+}
+
+fn dilate(input: u32, output: u32) -> Step {
+    Step::new(
+        Work::Morphology(input, MorphologyOperator::Dilate, 1.0, 0.0),
+        output,
+    )
 }

@@ -6,102 +6,79 @@ ghost use Rattle.std.specs.Prelude.{◌<◌};
 
 use filter::Kind;
 use sheet::Size;
-use stored::sheets::Stored;
-use stored::{sheets, words};
+use stored::sheets::Sheet;
+use stored::words::Words;
 
-// A run: its size and kind, and where its message and its sheets stand.
+// A run: its size and kind, its message and its sheets.
 #[derive(Clone, Copy)]
-pub struct Run {
+pub struct Run<'a> {
     pub size: Size,
     pub kind: Kind,
-    pub message: usize,
-    pub message_length: usize,
-    pub sheets: Sheets,
+    pub message: &'a [u8],
+    pub sheets: Sheets<'a>,
 }
 
-// The five sheets, and where the answer stands between their bytes before the run and after it.
+// The five sheets, and the answer, which stands between their bytes before the run and after it.
 #[derive(Clone, Copy)]
-pub struct Sheets {
-    pub source: Stored,
-    pub slot1: Stored,
-    pub slot2: Stored,
-    pub slot3: Stored,
-    pub scratch: Stored,
-    pub answer: usize,
+pub struct Sheets<'a> {
+    pub source: Sheet<'a>,
+    pub slot1: Sheet<'a>,
+    pub slot2: Sheet<'a>,
+    pub slot3: Sheet<'a>,
+    pub scratch: Sheet<'a>,
+    pub answer: Words<'a>,
 }
 
-// The run at `at`. What stands past the end of the list counts as zeros.
-pub fn read(list: &[u8], at: usize) -> Run
-    requires { at < 4294967296 }
-    ensures { at < result.sheets.scratch.end }
+// The run that `words` begin with. What stands past the end of the list counts as zeros.
+pub fn read<'a>(words: Words<'a>) -> Run<'a>
+    requires { words.at < 4294967296 }
+    ensures { words.entry.at < result.sheets.scratch.rest.at }
 {
-    let length = words::count_at(list, at + 9);
+    let list = words.list;
+    let at = words.at + 13;
+    let length = Words { list, at: at - 4 }.word(0) as usize;
     Run {
-        size: size_at(list, at),
-        kind: kind(words::nth_word(list, at, 2) % 256),
-        message: at + 13,
-        message_length: length,
-        sheets: sheets_at(list, at + 13 + length),
+        size: Size {
+            width: words.word(0) as usize,
+            height: words.word(1) as usize,
+        },
+        kind: Kind::try_from(words.word(2) % 256).unwrap_or(Kind::Premultiplied),
+        message: part(list, at, length),
+        sheets: sheets_in(Words {
+            list,
+            at: at + length,
+        }),
     }
 }
 
-fn size_at(list: &[u8], at: usize) -> Size
-    requires { at < 4294967296 }
+// The bytes of a message at `at`; fewer where the list ends before them.
+fn part(list: &[u8], at: usize, length: usize) -> &[u8] {
+    let rest = list.get(at..).unwrap_or(&[]);
+    rest.get(..length).unwrap_or(rest)
+}
+
+// The sheets that `words` begin with.
+fn sheets_in<'a>(words: Words<'a>) -> Sheets<'a>
+    requires { words.at < 549755813888 }
+    ensures { words.entry.at < result.scratch.rest.at }
 {
-    Size {
-        width: words::count_at(list, at),
-        height: words::count_at(list, at + 4),
-    }
-}
-
-fn kind(number: u32) -> Kind {
-    if number == 0 {
-        Kind::Straight
-    } else {
-        Kind::Premultiplied
-    }
-}
-
-fn sheets_at(list: &[u8], at: usize) -> Sheets
-    requires { at < 549755813888 }
-    ensures { at < result.scratch.end }
-{
-    let a = sheets::span_at(list, at, true);
-    let b = sheets::span_at(list, a.end, true);
-    let c = sheets::span_at(list, b.end, true);
-    let d = sheets::span_at(list, c.end, true);
-    let e = sheets::span_at(list, d.end, true);
-    let source = sheets::left_at(a, e.end + 16);
-    let slot1 = sheets::left_at(b, source.end);
-    let slot2 = sheets::left_at(c, slot1.end);
-    let slot3 = sheets::left_at(d, slot2.end);
-    let scratch = sheets::left_at(e, slot3.end);
+    let a = words.sheet(true);
+    let b = a.rest.sheet(true);
+    let c = b.rest.sheet(true);
+    let d = c.rest.sheet(true);
+    let e = d.rest.sheet(true);
+    let answer = e.rest;
+    let source = a.left(answer.skip(4));
+    let slot1 = b.left(source.rest);
+    let slot2 = c.left(slot1.rest);
+    let slot3 = d.left(slot2.rest);
+    let scratch = e.left(slot3.rest);
     Sheets {
-        source: source,
-        slot1: slot1,
-        slot2: slot2,
-        slot3: slot3,
-        scratch: scratch,
-        answer: e.end,
-    }
-}
-
-// The bytes of the run's message; fewer where the list ends before them.
-pub fn message(list: &[u8], run: Run) -> &[u8] {
-    let rest = after(list, run.message);
-    let length = run.message_length;
-    if rest.len() < length {
-        rest
-    } else {
-        &rest[..length]
-    }
-}
-
-// The bytes of the list from `at` on.
-fn after(list: &[u8], at: usize) -> &[u8] {
-    if at <= list.len() {
-        &list[at..]
-    } else {
-        &list[..0]
+        source,
+        slot1,
+        slot2,
+        slot3,
+        scratch,
+        answer,
     }
 }

@@ -1,11 +1,14 @@
 -- The laws of `tabulate`: its length, its elements, and that lists which agree on their elements are equal.
-use Prim.Native.Nat.{ℕ, zero, suc, ◌<◌}
+use Prim.Native.Nat.{ℕ, zero, suc, ◌+◌, ◌-◌, ◌≤◌, ◌<◌, min}
 use mathlib.Core.Path.{◌≡◌, refl, sym, ap, ◌∙◌}
-use mathlib.Core.List.{List}
+use mathlib.Core.List.{List, ◌∷◌, ◌++◌}
 use native.Mathlib.Nat.{not-suc-le-zero, le_of_suc-le-suc}
-use lib.ListN.{length, get_or}
+use native.Mathlib.Omega.{arith}
+use native.Mathlib.Decide.{dec_lt}
+use lib.ListN.{length, get_or, take, drop, replicate}
+use Rattle.std.proofs.lemmas.List.{length-append, length-take, length-take-le, length-drop, get_or_append_left, get_or-append_right, get_or-take, get_or-drop}
 use lib.Seq.{ext_get_or}
-use borrow.Author.Tests.{lt-ltb}
+use borrow.Author.Tests.{lt-ltb, le-ltb}
 use Rattle.sheet.specs.Tabulate.{tabulate, repeated, zeros, copied_at, copied}
 
 pub length_tabulate : {A : Type 0} (n : ℕ) (f : ℕ → A) → length (tabulate n f) ≡ n
@@ -44,3 +47,27 @@ get_d_zeros n i h = get_d_tabulate n (λ k. 0) i h
 pub copied_all : (src dst : List ℕ) → length src ≡ length dst → copied src dst ≡ src
 unfolding copied
 copied_all src dst e = sym (tabulated src (length dst) (copied_at src dst) e (λ k l. sym (rw (lt-ltb k (length src) (rw e l)))))
+
+-- n times z is the table of z
+pub replicated : (n z : ℕ) → replicate n z ≡ repeated n z
+unfolding repeated tabulate
+replicated zero z = refl
+replicated (suc n) z = ap (◌∷◌ z) (replicated n z)
+
+-- a copy of as many bytes as both have, as a stretch of src and what is left of dst
+module _ (src dst : List ℕ) where
+  pub copied_front : (n : ℕ) → n ≡ min (length src) (length dst) → take n src ++ drop n dst ≡ copied src dst
+  unfolding copied
+  copied_front n e =
+      tabulated _ (length dst) (copied_at src dst) (simp (length-append, length-take, length-drop) (omega arith)) (λ k l. go k l (dec_lt k n))
+    where
+      go : (k : ℕ) → k < length dst → Dec (k < n) → get_or (take n src ++ drop n dst) k 0 ≡ copied_at src dst k
+      go k l (yes h) =
+          let t : length (take n src) ≡ n = length-take-le n src (omega arith) in
+          let m : k < length src = omega arith in
+          get_or_append_left (take n src) (drop n dst) 0 k (omega arith) ∙ (get_or-take n src k 0 h ∙ sym (rw (lt-ltb k (length src) m)))
+      go k l (no h) =
+          let t : length (take n src) ≡ n = length-take-le n src (omega arith) in
+          let m : length src ≤ k = omega arith in
+          let e : n + (k - n) ≡ k = omega arith in
+          get_or-append_right (take n src) (drop n dst) n k 0 t (omega arith) ∙ (get_or-drop n dst (k - n) 0 ∙ (ap (λ (j : ℕ). get_or dst j 0) e ∙ sym (rw (le-ltb k (length src) m))))

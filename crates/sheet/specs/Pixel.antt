@@ -1,5 +1,5 @@
 -- A pixel as one number, and where its bytes lie in a sheet.
-use Rattle.std.specs.Prelude.{ℕ, zero, suc, ◌+◌, ◌*◌, ◌/◌, ◌%◌, ◌≤◌, ◌<◌, ◌≡◌, List, get_or, set}
+use Rattle.std.specs.Prelude.{ℕ, zero, suc, ◌+◌, ◌*◌, ◌/◌, ◌%◌, ◌≤◌, ◌<◌, ◌≡◌, List, length, get_or, set}
 
 -- byte k of a sheet that is w pixels wide belongs to channel k % 4 of the pixel in this column and this row
 abbrev pub column : ℕ → ℕ → ℕ
@@ -47,3 +47,12 @@ set_channels s k r g b a = set (set (set (set s k r) (k + 1) g) (k + 2) b) (k + 
 -- the sheet with a pixel's bytes from k on
 abbrev pub set_pixel : List ℕ → ℕ → ℕ → List ℕ
 set_pixel s k p = set_channels s k (channel 0 p) (channel 1 p) (channel 2 p) (channel 3 p)
+
+-- the bytes from k on are the channels of p
+abbrev pub StoredAt : List ℕ → ℕ → ℕ → Type 0
+StoredAt s k p = (c : ℕ) → c < 4 → get_or s (k + c) 0 ≡ channel c p
+
+-- each pixel p of the old sheet stands in R to a pixel q, which stands in its place of the new one
+pub record Mapped {P : Type 0} (number : P → ℕ) (R : P → P → Type 0) (old new : List ℕ) : Type 0 where
+  pub same : length new ≡ length old
+  pub each : (i : ℕ) → 4 * i < length old → (p : P) × (q : P) × PixelAt old (4 * i) (number p) × R p q × StoredAt new (4 * i) (number q)

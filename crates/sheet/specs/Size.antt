@@ -1,8 +1,6 @@
 -- Tests 1 and 2 of docs/LAW.md: the sides, and the lengths of the lent sheets.
 use Rattle.std.specs.Prelude.{ℕ, ◌*◌, ◌≤◌, ◌<◌, Bool, false, cond, List, [], ◌∷◌, leb, eqb}
-use Rattle.sheet.specs.declared.Answer.{Answer}
-use Rattle.sheet.specs.declared.Answer.TheVariants.{Done}
-use Rattle.sheet.specs.Answer.{refusal, and_then}
+use Rattle.sheet.specs.Answer.{Answer, Done, refusal, and_then}
 
 -- the longest side of a sheet
 abbrev pub side_limit : ℕ

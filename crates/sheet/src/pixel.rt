@@ -1,81 +1,103 @@
-// Pixels: four bytes of a sheet as one number, red lowest; straight and premultiplied colour are two types, and a pixel of
-// either kind is a third.
-ghost use Rattle.std.specs.Prelude.{◌≡◌, ◌+◌, ◌≤◌, ◌<◌, length};
-ghost use Rattle.sheet.specs.Pixel.{channel, Channels, PixelAt, set_channels, set_pixel};
+// Pixels: four bytes of a sheet as one number, red lowest. How the colours are given is part of the type.
+ghost use Rattle.std.specs.Prelude.{◌≡◌, ◌+◌, ◌%◌, ◌≤◌, ◌<◌, length};
+ghost use Rattle.sheet.specs.Pixel.{channel, Channels, PixelAt, set_channels, set_pixel, Mapped};
 
-// A pixel's number whose colours are not multiplied by its alpha.
+use std::marker::PhantomData;
+
+// Colours that are not multiplied by alpha.
 #[derive(Clone, Copy)]
-pub struct Straight(pub u32);
+pub struct Unmultiplied;
 
-// A pixel's number whose colours are multiplied by its alpha.
+// Colours that are multiplied by alpha.
 #[derive(Clone, Copy)]
-pub struct Premultiplied(pub u32);
+pub struct Multiplied;
 
-// A pixel's number of either kind: it is moved, and its channels are not looked at.
+// Colours of either kind: such a pixel is moved, and its channels are not looked at.
 #[derive(Clone, Copy)]
-pub struct Pixel(pub u32);
+pub struct Either;
 
-impl Straight {
-    pub fn of(r: u8, g: u8, b: u8, a: u8) -> Straight
-        ensures { Channels result.0 r g b a }
+// A pixel's number, whose colours are of kind K.
+#[derive(Clone, Copy)]
+pub struct Pixel<K> {
+    pub number: u32,
+    pub kind: PhantomData<K>,
+}
+
+pub type Straight = Pixel<Unmultiplied>;
+
+pub type Premultiplied = Pixel<Multiplied>;
+
+impl<K: Copy> Pixel<K> {
+    // The pixel of four channels.
+    pub fn of(r: u8, g: u8, b: u8, a: u8) -> Pixel<K>
+        ensures { Channels result.number r g b a }
     {
-        Straight(number_of(r, g, b, a))
+        Pixel::numbered(u32::from_le_bytes([r, g, b, a]))
+    }
+
+    // The pixel of a number.
+    pub fn numbered(number: u32) -> Pixel<K>
+        ensures { result.number ≡ number }
+    {
+        Pixel {
+            number,
+            kind: PhantomData,
+        }
     }
 
     pub fn red(self) -> u8
-        ensures { result ≡ channel 0 self.0 }
+        ensures { result ≡ channel 0 self.number }
     {
-        lowest(self.0)
+        lowest(self.number)
     }
 
     pub fn green(self) -> u8
-        ensures { result ≡ channel 1 self.0 }
+        ensures { result ≡ channel 1 self.number }
     {
-        lowest(self.0 / 256)
+        lowest(self.number / 256)
     }
 
     pub fn blue(self) -> u8
-        ensures { result ≡ channel 2 self.0 }
+        ensures { result ≡ channel 2 self.number }
     {
-        lowest(self.0 / 65536)
+        lowest(self.number / 65536)
     }
 
     pub fn alpha(self) -> u8
-        ensures { result ≡ channel 3 self.0 }
+        ensures { result ≡ channel 3 self.number }
     {
-        lowest(self.0 / 16777216)
+        lowest(self.number / 16777216)
+    }
+
+    // The pixel whose bytes begin at k.
+    pub fn at(sheet: &[u8], k: usize) -> Pixel<K>
+        requires { k + 3 < length sheet.now }
+        ensures { PixelAt sheet.now k result.number }
+    {
+        Pixel::of(sheet[k], sheet[k + 1], sheet[k + 2], sheet[k + 3])
+    }
+
+    // Stores the pixel at the bytes from k on.
+    #[tactic(auto, unfolding(crate::specs::Pixel::set_channels))]
+    pub fn put(self, sheet: &mut [u8], k: usize)
+        requires { k + 3 < length sheet.old }
+        ensures { sheet.new ≡ set_pixel sheet.old k self.number }
+    {
+        sheet[k] = self.red();
+        sheet[k + 1] = self.green();
+        sheet[k + 2] = self.blue();
+        sheet[k + 3] = self.alpha();
     }
 }
 
-impl Premultiplied {
-    pub fn of(r: u8, g: u8, b: u8, a: u8) -> Premultiplied
-        ensures { Channels result.0 r g b a }
-    {
-        Premultiplied(number_of(r, g, b, a))
-    }
-
-    pub fn red(self) -> u8
-        ensures { result ≡ channel 0 self.0 }
-    {
-        lowest(self.0)
-    }
-
-    pub fn green(self) -> u8
-        ensures { result ≡ channel 1 self.0 }
-    {
-        lowest(self.0 / 256)
-    }
-
-    pub fn blue(self) -> u8
-        ensures { result ≡ channel 2 self.0 }
-    {
-        lowest(self.0 / 65536)
-    }
-
-    pub fn alpha(self) -> u8
-        ensures { result ≡ channel 3 self.0 }
-    {
-        lowest(self.0 / 16777216)
+// Each pixel of the sheet becomes what `f` makes of it.
+pub fn map_pixels<K: Copy, F: Fn(Pixel<K>) -> Pixel<K>>(sheet: &mut [u8], f: F)
+    requires pixels { length sheet.old % 4 ≡ 0 }
+    requires callable { F.IsAlwaysCallable f }
+    ensures { Mapped (λ p. p.number) (F.post f) sheet.old sheet.new }
+{
+    for i in 0..sheet.len() / 4 {
+        f(Pixel::at(sheet, 4 * i)).put(sheet, 4 * i);
     }
 }
 
@@ -83,82 +105,4 @@ fn lowest(number: u32) -> u8
     ensures { result ≡ channel 0 number }
 {
     (number % 256) as u8
-}
-
-fn wide(x: u8) -> u32
-    ensures { (result ≡ x) × (result ≤ 255) }
-{
-    x as u32
-}
-
-fn number_of(r: u8, g: u8, b: u8, a: u8) -> u32
-    ensures { Channels result r g b a }
-{
-    wide(r) + 256 * wide(g) + 65536 * wide(b) + 16777216 * wide(a)
-}
-
-fn put(sheet: &mut [u8], k: usize, r: u8, g: u8, b: u8, a: u8)
-    requires { k + 3 < length sheet.old }
-    ensures { sheet.new ≡ set_channels sheet.old k r g b a }
-{
-    sheet[k] = r;
-    sheet[k + 1] = g;
-    sheet[k + 2] = b;
-    sheet[k + 3] = a;
-}
-
-// The pixel whose bytes begin at k.
-pub fn pixel_at(sheet: &[u8], k: usize) -> Pixel
-    requires { k + 3 < length sheet.now }
-    ensures { PixelAt sheet.now k result.0 }
-{
-    Pixel(number_of(sheet[k], sheet[k + 1], sheet[k + 2], sheet[k + 3]))
-}
-
-// Stores a pixel at the bytes from k on.
-pub fn put_pixel(sheet: &mut [u8], k: usize, pixel: Pixel)
-    requires { k + 3 < length sheet.old }
-    ensures { sheet.new ≡ set_pixel sheet.old k pixel.0 }
-{
-    let number = pixel.0;
-    put(
-        sheet,
-        k,
-        lowest(number),
-        lowest(number / 256),
-        lowest(number / 65536),
-        lowest(number / 16777216),
-    );
-}
-
-// The straight pixel whose bytes begin at k.
-pub fn straight_at(sheet: &[u8], k: usize) -> Straight
-    requires { k + 3 < length sheet.now }
-    ensures { PixelAt sheet.now k result.0 }
-{
-    Straight(pixel_at(sheet, k).0)
-}
-
-// Stores a straight pixel at the bytes from k on.
-pub fn put_straight(sheet: &mut [u8], k: usize, pixel: Straight)
-    requires { k + 3 < length sheet.old }
-    ensures { sheet.new ≡ set_pixel sheet.old k pixel.0 }
-{
-    put_pixel(sheet, k, Pixel(pixel.0));
-}
-
-// The premultiplied pixel whose bytes begin at k.
-pub fn premultiplied_at(sheet: &[u8], k: usize) -> Premultiplied
-    requires { k + 3 < length sheet.now }
-    ensures { PixelAt sheet.now k result.0 }
-{
-    Premultiplied(pixel_at(sheet, k).0)
-}
-
-// Stores a premultiplied pixel at the bytes from k on.
-pub fn put_premultiplied(sheet: &mut [u8], k: usize, pixel: Premultiplied)
-    requires { k + 3 < length sheet.old }
-    ensures { sheet.new ≡ set_pixel sheet.old k pixel.0 }
-{
-    put_pixel(sheet, k, Pixel(pixel.0));
 }

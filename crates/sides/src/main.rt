@@ -1,92 +1,69 @@
 // docs/LAW.md's boundary cases of the side limit, by every primitive and by a recipe: the numbers of their answers.
 #![tactic(auto)]
 
+ghost use Rattle.std.specs.Prelude.{◌≤◌};
+
 use color_matrix::ColorMatrix;
-use component_transfer::TransferFunction;
+use component_transfer::{Channel, TransferFunction};
 use convolve_matrix::{ConvolveMatrix, EdgeMode};
 use displacement_map::ColorChannel;
 use filter::{Kind, Recipe, STEP_LIMIT, Step, Work};
 use lighting::{Color, LightSource};
 use morphology::MorphologyOperator;
 use pool::Numbers;
-use sheet::{Answer, Size};
+use sheet::{Refusal, Size};
 use std::io;
 use turbulence::Turbulence;
 
 fn main(rt: HostRuntime) -> io::Result<()> {
-    longest(&rt, b"4096 x 1:", 4096, 1)?;
-    longer(&rt, b"4097 x 1:", 4097, 1)?;
-    longest(&rt, b"1 x 4096:", 1, 4096)?;
-    longer(&rt, b"1 x 4097:", 1, 4097)
+    show::<16384>(&rt, 4096, 1)?;
+    show::<16388>(&rt, 4097, 1)?;
+    show::<16384>(&rt, 1, 4096)?;
+    show::<16388>(&rt, 1, 4097)
 }
 
-// On sheets of 4,096 pixels.
-fn longest(rt: &impl Print, title: &[u8], width: usize, height: usize) -> io::Result<()> {
-    let mut source = [5u8; 16384];
-    let mut slot1 = [6u8; 16384];
-    let mut slot2 = [7u8; 16384];
-    let mut slot3 = [8u8; 16384];
-    let mut scratch = [9u8; 16384];
-    rt.write_all(title)?;
-    answers(
-        rt,
-        Size { width, height },
-        &mut source,
+// Prints what every call answers on sheets of N bytes.
+fn show<const N: usize>(rt: &impl Print, width: usize, height: usize) -> io::Result<()>
+    requires { N ≤ 16388 }
+{
+    let size = Size { width, height };
+    let mut source = [5u8; N];
+    let mut slot1 = [6u8; N];
+    let mut slot2 = [7u8; N];
+    let mut slot3 = [8u8; N];
+    let mut scratch = [9u8; N];
+    print!(rt; "{width} x {height}:")?;
+    spread(rt, size, &mut source, &mut scratch)?;
+    recoloured(rt, size, &mut source)?;
+    into_another(rt, size, &source, &slot1, &mut slot2)?;
+    lit(rt, size, &source, &mut slot2)?;
+    let run = filter::run(
+        dilation(),
+        Kind::Premultiplied,
+        &[],
+        size,
+        &source,
         &mut slot1,
         &mut slot2,
         &mut slot3,
         &mut scratch,
-    )
+    );
+    say(rt, ", a recipe", run.map_err(|refused| refused.refusal))?;
+    println!(rt;)
 }
 
-// On sheets of 4,097 pixels.
-fn longer(rt: &impl Print, title: &[u8], width: usize, height: usize) -> io::Result<()> {
-    let mut source = [5u8; 16388];
-    let mut slot1 = [6u8; 16388];
-    let mut slot2 = [7u8; 16388];
-    let mut slot3 = [8u8; 16388];
-    let mut scratch = [9u8; 16388];
-    rt.write_all(title)?;
-    answers(
-        rt,
-        Size { width, height },
-        &mut source,
-        &mut slot1,
-        &mut slot2,
-        &mut slot3,
-        &mut scratch,
-    )
-}
-
-// Prints what every call answers.
-fn answers(
-    rt: &impl Print,
-    size: Size,
-    source: &mut [u8],
-    slot1: &mut [u8],
-    slot2: &mut [u8],
-    slot3: &mut [u8],
-    scratch: &mut [u8],
-) -> io::Result<()> {
-    spread(rt, size, source, scratch)?;
-    recoloured(rt, size, source)?;
-    into_another(rt, size, source, slot1, slot2)?;
-    lit(rt, size, source, slot2)?;
-    recipe(rt, size, source, slot1, slot2, slot3, scratch)
-}
-
-fn say(rt: &impl Print, name: &[u8], answer: Answer) -> io::Result<()> {
-    rt.write_all(name)?;
-    print!(rt; "{}", sheet::answer_number(answer))
+// Prints a call's name and the number of its answer.
+fn say(rt: &impl Print, name: &str, answer: Result<(), Refusal>) -> io::Result<()> {
+    print!(rt; "{name} {}", answer.err().map_or(0, u8::from))
 }
 
 fn spread(rt: &impl Print, size: Size, src: &mut [u8], scratch: &mut [u8]) -> io::Result<()> {
     let w = size.width;
     let h = size.height;
     let dilated = morphology::apply(MorphologyOperator::Dilate, 1.0, 1.0, w, h, src, scratch);
-    say(rt, b" morphology ", dilated)?;
+    say(rt, " morphology", dilated)?;
     let convolved = convolve_matrix::apply(halves(), &[0.5, 0.5], w, h, src, scratch);
-    say(rt, b", convolve_matrix ", convolved)
+    say(rt, ", convolve_matrix", convolved)
 }
 
 // A kernel of two columns.
@@ -108,22 +85,13 @@ fn recoloured(rt: &impl Print, size: Size, src: &mut [u8]) -> io::Result<()> {
     let w = size.width;
     let h = size.height;
     let saturated = color_matrix::apply(ColorMatrix::Saturate(0.5), &[], w, h, src);
-    say(rt, b", color_matrix ", saturated)?;
-    let linear = TransferFunction::Linear(0.5, 0.25);
-    let transferred = component_transfer::apply(
-        linear,
-        &[],
-        linear,
-        &[],
-        linear,
-        &[],
-        linear,
-        &[],
-        w,
-        h,
-        src,
-    );
-    say(rt, b", component_transfer ", transferred)
+    say(rt, ", color_matrix", saturated)?;
+    let linear = Channel {
+        function: TransferFunction::Linear(0.5, 0.25),
+        pool: &[],
+    };
+    let transferred = component_transfer::apply(linear, linear, linear, linear, w, h, src);
+    say(rt, ", component_transfer", transferred)
 }
 
 fn into_another(
@@ -136,25 +104,13 @@ fn into_another(
     let w = size.width;
     let h = size.height;
     let composed = composite::arithmetic(0.0, 0.5, 0.5, 0.0, w, h, src, other, dest);
-    say(rt, b", composite ", composed)?;
-    let moved = displacement_map::apply(
-        ColorChannel::R,
-        ColorChannel::G,
-        1.0,
-        1.0,
-        20.0,
-        w,
-        h,
-        src,
-        other,
-        dest,
-    );
-    say(rt, b", displacement_map ", moved)?;
-    say(
-        rt,
-        b", turbulence ",
-        turbulence::apply(clouds(), w, h, dest),
-    )
+    say(rt, ", composite", composed)?;
+    let red = ColorChannel::R;
+    let green = ColorChannel::G;
+    let moved = displacement_map::apply(red, green, 1.0, 1.0, 20.0, w, h, src, other, dest);
+    say(rt, ", displacement_map", moved)?;
+    let drawn = turbulence::apply(clouds(), w, h, dest);
+    say(rt, ", turbulence", drawn)
 }
 
 fn clouds() -> Turbulence {
@@ -181,38 +137,16 @@ fn lit(rt: &impl Print, size: Size, src: &[u8], dest: &mut [u8]) -> io::Result<(
         blue: 255,
     };
     let diffuse = lighting::diffuse_lighting(light, 1.0, 1.0, white, w, h, src, dest);
-    say(rt, b", diffuse lighting ", diffuse)?;
+    say(rt, ", diffuse lighting", diffuse)?;
     let specular = lighting::specular_lighting(light, 1.0, 1.0, 1.0, white, w, h, src, dest);
-    say(rt, b", specular lighting ", specular)
+    say(rt, ", specular lighting", specular)
 }
 
 // One dilation, from the source to slot 1.
-fn recipe(
-    rt: &impl Print,
-    size: Size,
-    source: &[u8],
-    slot1: &mut [u8],
-    slot2: &mut [u8],
-    slot3: &mut [u8],
-    scratch: &mut [u8],
-) -> io::Result<()> {
+fn dilation() -> Recipe {
     let dilate = Work::Morphology(0, MorphologyOperator::Dilate, 1.0, 1.0);
-    let steps = [Step::new(dilate, 1); STEP_LIMIT];
-    let recipe = Recipe {
-        steps: steps,
+    Recipe {
+        steps: [Step::new(dilate, 1); STEP_LIMIT],
         count: 1,
-    };
-    let answer = filter::run(
-        recipe,
-        Kind::Premultiplied,
-        &[],
-        size,
-        source,
-        slot1,
-        slot2,
-        slot3,
-        scratch,
-    );
-    say(rt, b", a recipe ", answer)?;
-    rt.write_all(b"\n")
+    }
 }

@@ -2,15 +2,11 @@
 ghost use Rattle.std.specs.Prelude.{◌≡◌};
 ghost use Rattle.stored.specs.Answers.{is_stored};
 
-use crate::words;
-use sheet::Answer;
+use crate::words::Words;
 
-// Whether the answer is the one stored at `at`.
-pub fn is_stored(list: &[u8], at: usize, answer: Answer) -> bool
-    ensures { result ≡ is_stored list.now at answer }
+// Whether the answer of this number and step is the one that is stored.
+pub fn is_stored(words: Words, number: u8, step: u8) -> bool
+    ensures { result ≡ is_stored words.entry.list.now words.entry.at number step }
 {
-    if sheet::answer_number(answer) as u32 != words::nth_word(list, at, 0) {
-        return false;
-    }
-    sheet::answer_step(answer) as u32 == words::nth_word(list, at, 1)
+    words.word(0) == u32::from(number) && words.word(1) == u32::from(step)
 }

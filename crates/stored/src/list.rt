@@ -11,6 +11,7 @@ pub const LIST: usize = 262144;
 
 // Fills `list` with the bytes of the file at `path`, and says how many there are. A file that cannot be opened or read gives its
 // error, which may leave some of its bytes in `list`; a path that is no UTF-8 names no file.
+// What may not change: a path of type `&str` would ask more of `read`'s callers.
 pub fn read(rt: &impl Files, path: &[u8], list: &mut [u8; LIST]) -> io::Result<usize>
     ensures prefix_len { IfOk result (λ n. IsPrefixLen n list.new) }
     ensures upper_bound { IfOk result (λ n. n ≤ 262144) }
@@ -22,7 +23,7 @@ pub fn read(rt: &impl Files, path: &[u8], list: &mut [u8; LIST]) -> io::Result<u
 }
 
 // Reads until `list` is full or the input ends, and says how many bytes were put at its start.
-fn fill(file: &mut impl Read, list: &mut [u8]) -> io::Result<usize>
+pub fn fill(file: &mut impl Read, list: &mut [u8]) -> io::Result<usize>
     ensures { IfOk result (λ n. IsPrefixLen n list.new) }
 {
     let mut end = 0;

@@ -3,79 +3,67 @@
 ghost use Rattle.std.specs.Prelude.{◌≡◌, ◌==◌, IfOk};
 ghost use Rattle.stored.specs.Tally as Tallies;
 
-use std::io;
+use std::{fmt, io};
 
-#[derive(Clone, Copy)]
+#[derive(Clone, Copy, Debug, Default, PartialEq, Eq)]
 pub struct Tally {
     pub cases: u64,
     pub differences: u64,
     pub unnamed: u64,
 }
 
-pub fn none() -> Tally
-    ensures { result ≡ Tallies.none }
-{
-    Tally {
-        cases: 0,
-        differences: 0,
-        unnamed: 0,
-    }
-}
-
-// One case more.
-pub fn counted(tally: Tally, same: bool) -> Tally
-    ensures { result ≡ Tallies.counted tally same }
-{
-    let cases = std::num::wrapping_add_u64(tally.cases, 1);
-    if same {
-        Tally {
-            cases: cases,
-            differences: tally.differences,
-            unnamed: tally.unnamed,
+impl Tally {
+    // One case more.
+    pub fn counted(self, same: bool) -> Tally
+        ensures { result ≡ Tallies.counted self same }
+    {
+        let cases = self.cases.wrapping_add(1);
+        if same {
+            return Tally { cases, ..self };
         }
-    } else {
+        let differences = self.differences.wrapping_add(1);
         Tally {
-            cases: cases,
-            differences: std::num::wrapping_add_u64(tally.differences, 1),
-            unnamed: tally.unnamed,
+            cases,
+            differences,
+            ..self
         }
     }
-}
 
-// One case more that is not run.
-pub fn unnamed(tally: Tally) -> Tally
-    ensures { result ≡ Tallies.unnamed tally }
-{
-    Tally {
-        cases: tally.cases,
-        differences: tally.differences,
-        unnamed: std::num::wrapping_add_u64(tally.unnamed, 1),
+    // One case more that is not run.
+    pub fn unnamed(self) -> Tally
+        ensures { result ≡ Tallies.unnamed self }
+    {
+        Tally {
+            unnamed: self.unnamed.wrapping_add(1),
+            ..self
+        }
+    }
+
+    // The tally of a list that is read to its end; one that may go on counts as a difference.
+    pub fn whole(self, ended: bool) -> Tally
+        ensures { result ≡ Tallies.whole self ended }
+    {
+        if ended { self } else { self.counted(false) }
+    }
+
+    // Prints the tally after a name, and how many cases were not run, if any; says whether none differ. Where a write fails, it
+    // gives the error.
+    // What may not change: a name of type `&str` would ask more of `print`'s callers.
+    pub fn print(self, rt: &impl Print, name: &[u8]) -> io::Result<bool>
+        ensures { IfOk result (λ none_differ. none_differ ≡ (self.differences == 0)) }
+    {
+        rt.write_all(name)?;
+        println!(rt; ": {}", self)?;
+        if self.unnamed > 0 {
+            rt.write_all(name)?;
+            println!(rt; ": {} cases not run, which only C can say", self.unnamed)?;
+        }
+        Ok(self.differences == 0)
     }
 }
 
-// The tally of a list that is read to its end; one that may go on counts as a difference.
-pub fn whole(tally: Tally, ended: bool) -> Tally
-    ensures { result ≡ Tallies.whole tally ended }
-{
-    if ended { tally } else { counted(tally, false) }
-}
-
-// Prints `NAME: N cases, M differences`, and how many were not run, if any; says whether none differ. Where a write fails, it gives
-// the error.
-pub fn print(rt: &impl Print, name: &[u8], tally: Tally) -> io::Result<bool>
-    ensures { IfOk result (λ none_differ. none_differ ≡ (tally.differences == 0)) }
-{
-    print_count(rt, name, tally.cases)?;
-    println!(rt; " cases, {} differences", tally.differences)?;
-    if tally.unnamed > 0 {
-        print_count(rt, name, tally.unnamed)?;
-        println!(rt; " cases not run, which only C can say")?;
+impl fmt::Display for Tally {
+    fn fmt<W: fmt::Write>(&self, f: &mut fmt::Formatter<W>) -> fmt::Result {
+        write!(f, "{} cases, {} differences", self.cases, self.differences)
     }
-    Ok(tally.differences == 0)
-}
-
-// Prints `NAME: N`.
-fn print_count(rt: &impl Print, name: &[u8], count: u64) -> io::Result<()> {
-    rt.write_all(name)?;
-    print!(rt; ": {count}")
 }

@@ -1,126 +1,92 @@
-// The numbers in bytes, the lowest byte first: words of 32 bits, and floats by their bits.
-ghost use Rattle.std.specs.Prelude.{◌≡◌, ◌+◌, ◌*◌, ◌<◌, ◌≤◌, length, from_bits, slice_index};
-ghost use Rattle.std.specs.Float.{binary32, binary64};
+// The numbers in a list's bytes, the lowest byte first: words of 32 bits, and floats by their bits.
+ghost use Rattle.std.specs.Prelude.{◌≡◌, ◌+◌, ◌*◌, ◌<◌, ◌≤◌, length, drop, slice_index};
 ghost use Rattle.sheet.specs.Tabulate.{tabulate};
-ghost use Rattle.stored.specs.Words as Words;
+ghost use Rattle.stored.specs.Words as Numbers;
 
-// The number of four bytes from `at` on; a byte past the end counts as 0.
-fn word_at(s: &[u8], at: usize) -> u32
-    ensures { result ≡ Words.word_at s.now at }
-{
-    byte_at(s, at, 0)
-        + 256 * byte_at(s, at, 1)
-        + 65536 * byte_at(s, at, 2)
-        + 16777216 * byte_at(s, at, 3)
+use std::num;
+
+// The words of a list from a place on, which may be anywhere: a byte past the end of the list counts as 0.
+#[derive(Clone, Copy, Debug)]
+pub struct Words<'a> {
+    pub list: &'a [u8],
+    pub at: usize,
 }
 
-// The word at `at`, a count.
-pub fn count_at(s: &[u8], at: usize) -> usize
-    ensures { (result ≡ Words.word_at s.now at) × (result < 4294967296) }
-{
-    word_at(s, at) as usize
-}
-
-// Word i of those from `at` on, which may be anywhere.
-pub fn nth_word(s: &[u8], at: usize, i: usize) -> u32
-    requires { i < 4096 }
-    ensures { result ≡ Words.word s.now at i }
-{
-    if s.len() < at {
-        return 0;
+impl<'a> Words<'a> {
+    // The bytes from the place on.
+    fn rest(self) -> &'a [u8]
+        ensures { result.now ≡ drop self.entry.at self.entry.list.now }
+    {
+        self.list.get(self.at..).unwrap_or(&[])
     }
-    word_at(&s[at..], 4 * i)
-}
 
-// Word i of those from `at` on, the bits of an `f32`.
-pub fn nth_float(s: &[u8], at: usize, i: usize) -> f32
-    requires { i < 4096 }
-    ensures { result ≡ Words.float s.now at i }
-{
-    float(nth_word(s, at, i))
-}
-
-// Words i and i + 1 of those from `at` on, the low and the high bits of an `f64`.
-pub fn nth_double(s: &[u8], at: usize, i: usize) -> f64
-    requires { i < 4095 }
-    ensures { result ≡ Words.double s.now at i }
-{
-    double(nth_word(s, at, i), nth_word(s, at, i + 1))
-}
-
-// Word i of those from `at` on, the two's complement of an `i32`.
-pub fn nth_signed(s: &[u8], at: usize, i: usize) -> i32
-    requires { i < 4096 }
-    ensures { result ≡ Words.signed (Words.word s.now at i) }
-{
-    signed(nth_word(s, at, i))
-}
-
-// Fills `numbers` with the words from `at` on, the bits of an `f32` each.
-pub fn floats(s: &[u8], at: usize, numbers: &mut [f32])
-    requires { length numbers.old ≤ 4096 }
-    ensures { numbers.new ≡ tabulate (length numbers.old) (Words.float s.now at) }
-{
-    let mut i = 0;
-    while i < numbers.len() {
-        numbers[i] = nth_float(s, at, i);
-        i += 1;
+    // Word i.
+    #[tactic(auto, unfolding(crate::specs::Words::word))]
+    pub fn word(self, i: usize) -> u32
+        requires { i < 4096 }
+        ensures { result ≡ Numbers.word self.entry.list.now self.entry.at i }
+    {
+        let rest = self.rest();
+        let at = 4 * i;
+        u32::from_le_bytes([
+            byte(rest, at),
+            byte(rest, at + 1),
+            byte(rest, at + 2),
+            byte(rest, at + 3),
+        ])
     }
-}
 
-// The byte at `at + i`, or 0 past the end.
-fn byte_at(s: &[u8], at: usize, i: usize) -> u32
-    ensures { (result ≡ slice_index s.now (at + i)) × (result < 256) }
-{
-    if at < s.len() {
-        if i < s.len() - at {
-            return wide(s[at + i]);
+    // Word i, the bits of an `f32`.
+    pub fn float(self, i: usize) -> f32
+        requires { i < 4096 }
+        ensures { result ≡ Numbers.float self.entry.list.now self.entry.at i }
+    {
+        num::f32_from_bits_with_nan(self.word(i))
+    }
+
+    // Words i and i + 1, the low and the high bits of an `f64`.
+    pub fn double(self, i: usize) -> f64
+        requires { i < 4095 }
+        ensures { result ≡ Numbers.double self.entry.list.now self.entry.at i }
+    {
+        let low = u64::from(self.word(i));
+        let high = u64::from(self.word(i + 1));
+        num::f64_from_bits_with_nan(low + 4294967296 * high)
+    }
+
+    // Word i, the two's complement of an `i32`.
+    pub fn signed(self, i: usize) -> i32
+        requires { i < 4096 }
+        ensures { result ≡ Numbers.signed (Numbers.word self.entry.list.now self.entry.at i) }
+    {
+        self.word(i).cast_signed()
+    }
+
+    // The words after the first `count`.
+    pub fn skip(self, count: usize) -> Words<'a>
+        requires { self.at + 4 * count < 18446744073709551616 }
+        ensures { (result.list ≡ self.entry.list) × (result.at ≡ self.entry.at + 4 * count) }
+    {
+        Words {
+            list: self.list,
+            at: self.at + 4 * count,
         }
     }
-    0
-}
 
-fn wide(b: u8) -> u32
-    ensures { (result ≡ b) × (result < 256) }
-{
-    b as u32
-}
-
-// The `f32` of a bit pattern; each of NaN's patterns gives a NaN.
-fn float(bits: u32) -> f32
-    ensures { result ≡ from_bits binary32 bits }
-{
-    if bits % 0x8000_0000 <= 0x7f80_0000 {
-        f32::from_bits(bits)
-    } else {
-        0.0f32 / 0.0f32
+    // Fills `numbers` with the words, the bits of an `f32` each.
+    pub fn floats(self, numbers: &mut [f32])
+        requires { length numbers.old ≤ 4096 }
+        ensures { numbers.new ≡ tabulate (length numbers.old) (Numbers.float self.entry.list.now self.entry.at) }
+    {
+        for i in 0..numbers.len() {
+            numbers[i] = self.float(i);
+        }
     }
 }
 
-// The `f64` of the low and the high bits of its pattern; each of NaN's patterns gives a NaN.
-fn double(low: u32, high: u32) -> f64
-    ensures { result ≡ from_bits binary64 (low + 4294967296 * high) }
+// Byte i, or 0 past the end.
+fn byte(bytes: &[u8], i: usize) -> u8
+    ensures { result ≡ slice_index bytes.now i }
 {
-    of_pattern(low as u64 + 4294967296 * (high as u64))
-}
-
-fn of_pattern(bits: u64) -> f64
-    ensures { result ≡ from_bits binary64 bits }
-{
-    if bits % 0x8000_0000_0000_0000 <= 0x7ff0_0000_0000_0000 {
-        f64::from_bits(bits)
-    } else {
-        0.0f64 / 0.0f64
-    }
-}
-
-// The number of which `bits` is the two's complement.
-fn signed(bits: u32) -> i32
-    ensures { result ≡ Words.signed bits }
-{
-    if bits < 0x8000_0000 {
-        bits as i32
-    } else {
-        !((0xffff_ffff - bits) as i32)
-    }
+    bytes.get(i).copied().unwrap_or(0)
 }

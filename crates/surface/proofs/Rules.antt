@@ -10,7 +10,7 @@ use lib.Ieee.{Float}
 use Rattle.floats.specs.Constants.{half}
 use Rattle.surface.specs.declared.Normal.{Normal}
 use Rattle.surface.specs.Surface.{alpha_at, weighted, behind, ahead, lean, turned, at_edge, quarter, third, two_thirds, lean_factor, normal_at}
-use Rattle.surface.specs.Inner.Lines.{factor_of}
+use Rattle.surface.specs.Inner.Leans.{factor_of}
 
 -- resvg's `Normal::new`
 abbrev pub normal : (fx fy : Float) → (nx ny : ℤ) → Normal

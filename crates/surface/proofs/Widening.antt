@@ -1,185 +1,104 @@
--- A strip's columns with the one before it and the one after it: their leans are the sheet's.
+-- A row's columns with the one before them and the one after them: their leans are the sheet's.
 use Prim.Native.Nat.{ℕ, ◌+◌, ◌-◌, ◌≤◌, ◌<◌, min}
-use mathlib.Core.Path.{◌≡◌, sym, ap, ◌∙◌}
+use mathlib.Core.Path.{◌≡◌, sym, ◌∙◌}
 use mathlib.Core.List.{List}
-use native.Mathlib.Nat.{not-suc-le-zero}
 use native.Mathlib.Omega.{arith}
 use native.Mathlib.Decide.{dec_lt, ℕ_discrete}
-use borrow.Author.Count.{below_more}
 use borrow.Author.Tests.{eq-eqb, ne_eqb, lt-ltb, le-ltb}
 use lib.ListN.{length, get_or, set}
-use Rattle.sheet.specs.Inner.Strips.{Changed}
-use Rattle.sheet.proofs.Strips.{changed_none, changed_more}
-use Rattle.surface.specs.declared.Strip.{Strip}
-use Rattle.surface.specs.Surface.{alpha_at, before, after, weighted, behind, ahead, lean, normal_at}
-use Rattle.surface.specs.Inner.Lines.{Placed, wide_sum, wide_alpha, Stored, Columns, weighted_in, normal_in, normal_of}
+use lib.Seq.{get_or-set_same, get_or-set_other}
+use Rattle.surface.specs.declared.strip.Row.{Row}
+use Rattle.surface.specs.Surface.{before, after, weighted, behind, ahead, lean, normal_at}
+use Rattle.surface.specs.Inner.Leans.{weighted_in}
+use Rattle.surface.specs.Inner.Rows.{alpha_in, wide_sum, wide_alpha, Holds, normal_in, normal_of}
 
 -- ---- one column
-module _ (w : ℕ) (s : List ℕ) (v k : ℕ) where
+module _ (row : Row) (v i : ℕ) where
   -- the sheet's own
-  pub alpha_own : (x : ℕ) → k ≡ x + 1 → x < w → wide_alpha w s v k ≡ alpha_at w s x v
+  alpha_own : (x : ℕ) → row.strip.left + i ≡ x + 1 → x < row.strip.width → alpha_in row x v ≡ wide_alpha row v i
   unfolding wide_alpha
   alpha_own x e p =
-      let z : k - 1 ≡ x = omega arith in
-      rw (ne_eqb k 0 (λ q. omega arith), z, lt-ltb x w p)
+      let z : row.strip.left + i - 1 ≡ x = omega arith in
+      sym (rw (ne_eqb (row.strip.left + i) 0 (λ q. omega arith), z, lt-ltb x row.strip.width p))
 
   -- those beyond the edges
-  pub alpha_first : k ≡ 0 → 0 ≡ wide_alpha w s v k
+  pub alpha_first : row.strip.left + i ≡ 0 → 0 ≡ wide_alpha row v i
   unfolding wide_alpha
-  alpha_first e = sym (rw (eq-eqb k 0 e))
+  alpha_first e = sym (rw (eq-eqb (row.strip.left + i) 0 e))
 
-  pub alpha_last : w < k → 0 ≡ wide_alpha w s v k
+  pub alpha_last : row.strip.width < row.strip.left + i → 0 ≡ wide_alpha row v i
   unfolding wide_alpha
-  alpha_last p = sym (rw (ne_eqb k 0 (λ q. omega arith), le-ltb (k - 1) w (omega arith)))
+  alpha_last p = sym (rw (ne_eqb (row.strip.left + i) 0 (λ q. omega arith), le-ltb (row.strip.left + i - 1) row.strip.width (omega arith)))
 
-module _ (w h : ℕ) (s : List ℕ) (y k : ℕ) where
-  same_sum : (x : ℕ) → min (k - 1) (w - 1) ≡ x → wide_sum w h s y k ≡ weighted h (alpha_at w s x) y
+module _ (row : Row) (i : ℕ) where
+  sum_of : (x : ℕ) → min (row.strip.left + i - 1) (row.strip.width - 1) ≡ x → weighted row.strip.height (alpha_in row x) row.y ≡ wide_sum row i
   unfolding wide_sum
-  same_sum x e = rw e
+  sum_of x e = rw e
 
-  pub sum_own : (x : ℕ) → k ≡ x + 1 → x < w → wide_sum w h s y k ≡ weighted h (alpha_at w s x) y
-  sum_own x e p = same_sum x (omega arith)
+  pub same_sum : (j : ℕ) → min (row.strip.left + i - 1) (row.strip.width - 1) ≡ min (row.strip.left + j - 1) (row.strip.width - 1) → wide_sum row i ≡ wide_sum row j
+  unfolding wide_sum
+  same_sum j e = rw e
 
-module _ (w h : ℕ) (s : List ℕ) (y k : ℕ) where
-  pub sum_first : k ≡ 0 → wide_sum w h s y (k + 1) ≡ wide_sum w h s y k
-  sum_first e = same_sum w h s y (k + 1) 0 (omega arith) ∙ sym (same_sum w h s y k 0 (omega arith))
+-- ---- one column more is stored
+set_as : (f : ℕ → ℕ) (l : List ℕ) (k v : ℕ) → k < length l → v ≡ f k → (i : ℕ) → ((i ≡ k → ⊥) → get_or l i 0 ≡ f i) → get_or (set l k v) i 0 ≡ f i
+set_as f l k v h e i r = go (ℕ_discrete i k)
+  where
+    go : Dec (i ≡ k) → get_or (set l k v) i 0 ≡ f i
+    go (yes z) = rw z (get_or-set_same l k v 0 h ∙ e)
+    go (no d) = get_or-set_other l k i v 0 (omega arith) ∙ r d
 
-  pub sum_last : 0 < w → k ≡ w → wide_sum w h s y k ≡ wide_sum w h s y (k + 1)
-  sum_last p e = same_sum w h s y k (w - 1) (omega arith) ∙ sym (same_sum w h s y (k + 1) (w - 1) (omega arith))
-
--- ---- columns that are stored one by one
-module _ (w h : ℕ) (s : List ℕ) (y k at : ℕ) (sums above below : List ℕ) where
-  pub stored_none : Stored w h s y k 0 at sums above below sums above below
-  stored_none = record {
-    sums_are = changed_none 0 (λ i. wide_sum w h s y (k + i)) at sums;
-    small = λ i q. absurd (not-suc-le-zero q);
-    above_are = changed_none 0 (λ i. wide_alpha w s (behind y) (k + i)) at above;
-    below_are = changed_none 0 (λ i. wide_alpha w s (ahead h y) (k + i)) at below;
+module _ {row : Row} {a b : ℕ} {sums above below : List ℕ} (r : Holds row a b sums above below) (k : ℕ) (p : k < length sums) (q : k < length above) (t : k < length below) (a' b' : ℕ) (held : (i : ℕ) → a' ≤ i → i < b' → (i ≡ k → ⊥) → (a ≤ i) × (i < b)) where
+  pub stored : (s u v : ℕ) → s ≡ wide_sum row k → u ≡ wide_alpha row (behind row.y) k → v ≡ wide_alpha row (ahead row.strip.height row.y) k → Holds row a' b' (set sums k s) (set above k u) (set below k v)
+  stored s u v e f g = record {
+    sums_are = λ i l m. set_as (wide_sum row) sums k s p e i (λ d. let z = held i l m d in r.sums_are i z.0 z.1);
+    above_are = λ i l m. set_as (wide_alpha row (behind row.y)) above k u q f i (λ d. let z = held i l m d in r.above_are i z.0 z.1);
+    below_are = λ i l m. set_as (wide_alpha row (ahead row.strip.height row.y)) below k v t g i (λ d. let z = held i l m d in r.below_are i z.0 z.1);
   }
 
-  pub stored_more : {n : ℕ} {sums' above' below' : List ℕ} (v a b : ℕ) → Stored w h s y k n at sums above below sums' above' below' → at + n < length sums' → at + n < length above' → at + n < length below' → v ≡ wide_sum w h s y (k + n) → v ≤ 1020 → a ≡ wide_alpha w s (behind y) (k + n) → b ≡ wide_alpha w s (ahead h y) (k + n) → Stored w h s y k (n + 1) at sums above below (set sums' (at + n) v) (set above' (at + n) a) (set below' (at + n) b)
-  stored_more {n} v a b r p q t e m f g = record {
-    sums_are = changed_more 0 (λ i. wide_sum w h s y (k + i)) at sums v r.sums_are p e;
-    small = below_more (λ i. wide_sum w h s y (k + i) ≤ 1020) n r.small (rw (← e) m);
-    above_are = changed_more 0 (λ i. wide_alpha w s (behind y) (k + i)) at above a r.above_are q f;
-    below_are = changed_more 0 (λ i. wide_alpha w s (ahead h y) (k + i)) at below b r.below_are t g;
-  }
+  -- the sheet's own
+  pub stored_own : (x : ℕ) → row.strip.left + k ≡ x + 1 → x < row.strip.width → Holds row a' b' (set sums k (weighted row.strip.height (alpha_in row x) row.y)) (set above k (alpha_in row x (behind row.y))) (set below k (alpha_in row x (ahead row.strip.height row.y)))
+  stored_own x e l = stored _ _ _ (sum_of row k x (omega arith)) (alpha_own row _ k x e l) (alpha_own row _ k x e l)
 
-  pub stored_one : (v a b : ℕ) → at < length sums → at < length above → at < length below → v ≡ wide_sum w h s y k → v ≤ 1020 → a ≡ wide_alpha w s (behind y) k → b ≡ wide_alpha w s (ahead h y) k → Stored w h s y k 1 at sums above below (set sums at v) (set above at a) (set below at b)
-  stored_one v a b p q t e m f g =
-      let none : k ≡ k + 0 = omega arith in
-      let here : at + 0 ≡ at = omega arith in
-      rw here at (stored_more v a b stored_none (omega arith) (omega arith) (omega arith) (rw none at e) m (rw none at f) (rw none at g))
-
--- two places are there still
-pub two_kept : {a b : ℕ} (n : ℕ) → b ≡ a → n + 2 ≤ a → 1 < b
-two_kept n e p = omega arith
-
--- what a place holds then
-pub stored_at : {w h : ℕ} {s : List ℕ} {y k n at : ℕ} {sums above below sums' above' below' : List ℕ} → Stored w h s y k n at sums above below sums' above' below' → (i p j : ℕ) → i < n → at + i ≡ p → k + i ≡ j → (get_or sums' p 0 ≡ wide_sum w h s y j) × (get_or sums' p 0 ≤ 1020)
-stored_at r i p j l e f = rw (← e, ← f) (r.sums_are.inside i l, rw (r.sums_are.inside i l) (r.small i l))
-
--- ---- a strip, then the place before it, then the one after it
-module _ (f : ℕ → ℕ) (left n : ℕ) where
-  small_around : ((i : ℕ) → i < n → f (left + 1 + i) ≤ 1020) → ((i : ℕ) → i < 1 → f (left + i) ≤ 1020) → ((i : ℕ) → i < 1 → f (left + n + 1 + i) ≤ 1020) → (i : ℕ) → i < n + 2 → f (left + i) ≤ 1020
-  small_around a b c i p = go (ℕ_discrete i 0) (dec_lt i (n + 1))
-    where
-      go : Dec (i ≡ 0) → Dec (i < n + 1) → f (left + i) ≤ 1020
-      go (yes z) d = b i (omega arith)
-      go (no z) (yes d) = let e : left + i ≡ left + 1 + (i - 1) = omega arith in rw e (a (i - 1) (omega arith))
-      go (no z) (no d) = let e : left + i ≡ left + n + 1 + 0 = omega arith in rw e (c 0 (omega arith))
-
-  module _ {l₀ l₁ l₂ l₃ : List ℕ} (a : Changed 0 (λ i. f (left + 1 + i)) 1 n l₀ l₁) (b : Changed 0 (λ i. f (left + i)) 0 1 l₁ l₂) (c : Changed 0 (λ i. f (left + n + 1 + i)) (n + 1) 1 l₂ l₃) where
-    same_around : length l₃ ≡ length l₀
-    same_around = c.same ∙ (b.same ∙ a.same)
-
-    around : (i : ℕ) → i < n + 2 → get_or l₃ i 0 ≡ f (left + i)
-    around i p = go (ℕ_discrete i 0) (dec_lt i (n + 1))
-      where
-        go : Dec (i ≡ 0) → Dec (i < n + 1) → get_or l₃ i 0 ≡ f (left + i)
-        go (yes z) d = let here : i ≡ 0 + i = omega arith in c.before i (omega arith) ∙ (ap (λ (j : ℕ). get_or l₂ j 0) here ∙ b.inside i (omega arith))
-        go (no z) (yes d) =
-            let here : i ≡ 1 + (i - 1) = omega arith in
-            let e : left + 1 + (i - 1) ≡ left + i = omega arith in
-            c.before i d ∙ (b.after i (omega arith) ∙ (ap (λ (j : ℕ). get_or l₁ j 0) here ∙ (a.inside (i - 1) (omega arith) ∙ ap f e)))
-        go (no z) (no d) =
-            let here : i ≡ n + 1 + 0 = omega arith in
-            let e : left + n + 1 + 0 ≡ left + i = omega arith in
-            ap (λ (j : ℕ). get_or l₃ j 0) here ∙ (c.inside 0 (omega arith) ∙ ap f e)
-
--- ---- three columns side by side
-module _ (w : ℕ) (s : List ℕ) (v x : ℕ) (p : x < w) where
+-- ---- the leans
+module _ (row : Row) (i v : ℕ) (p : row.strip.left + i < row.strip.width) where
   abbrev alphas : ℕ → ℕ
-  alphas i = alpha_at w s i v
+  alphas x = alpha_in row x v
 
-  alpha_before : wide_alpha w s v x ≡ before alphas x
-  alpha_before = go (ℕ_discrete x 0)
+  alpha_before : wide_alpha row v i ≡ before alphas (row.strip.left + i)
+  alpha_before = go (ℕ_discrete (row.strip.left + i) 0)
     where
-      go : Dec (x ≡ 0) → wide_alpha w s v x ≡ before alphas x
-      go (yes z) = rw (eq-eqb x 0 z) (sym (alpha_first w s v x z))
-      go (no z) = rw (ne_eqb x 0 z) (alpha_own w s v x (x - 1) (omega arith) (omega arith))
+      go : Dec (row.strip.left + i ≡ 0) → wide_alpha row v i ≡ before alphas (row.strip.left + i)
+      go (yes z) = rw (eq-eqb (row.strip.left + i) 0 z) (sym (alpha_first row v i z))
+      go (no z) = rw (ne_eqb (row.strip.left + i) 0 z) (sym (alpha_own row v i (row.strip.left + i - 1) (omega arith) (omega arith)))
 
-  alpha_after : wide_alpha w s v (x + 2) ≡ after w alphas x
-  alpha_after = go (dec_lt (x + 1) w)
+  alpha_after : wide_alpha row v (i + 2) ≡ after row.strip.width alphas (row.strip.left + i)
+  alpha_after = go (dec_lt (row.strip.left + i + 1) row.strip.width)
     where
-      go : Dec (x + 1 < w) → wide_alpha w s v (x + 2) ≡ after w alphas x
-      go (yes z) = rw (lt-ltb (x + 1) w z) (alpha_own w s v (x + 2) (x + 1) (omega arith) z)
-      go (no z) = rw (le-ltb (x + 1) w (let n : w ≤ x + 1 = omega arith in n)) (sym (alpha_last w s v (x + 2) (omega arith)))
+      go : Dec (row.strip.left + i + 1 < row.strip.width) → wide_alpha row v (i + 2) ≡ after row.strip.width alphas (row.strip.left + i)
+      go (yes z) = rw (lt-ltb (row.strip.left + i + 1) row.strip.width z) (sym (alpha_own row v (i + 2) (row.strip.left + i + 1) (omega arith) z))
+      go (no z) = rw (le-ltb (row.strip.left + i + 1) row.strip.width (omega arith)) (sym (alpha_last row v (i + 2) (omega arith)))
 
-  row_sum_lem : (l : List ℕ) (i : ℕ) → get_or l i 0 ≡ wide_alpha w s v x → get_or l (i + 1) 0 ≡ wide_alpha w s v (x + 1) → get_or l (i + 2) 0 ≡ wide_alpha w s v (x + 2) → weighted_in l i ≡ weighted w alphas x
+  weighted_across : (l : List ℕ) → get_or l i 0 ≡ wide_alpha row v i → get_or l (i + 1) 0 ≡ wide_alpha row v (i + 1) → get_or l (i + 2) 0 ≡ wide_alpha row v (i + 2) → weighted_in l i ≡ weighted row.strip.width alphas (row.strip.left + i)
   unfolding weighted
-  row_sum_lem l i e f g = rw (e, f, g, alpha_before, alpha_own w s v (x + 1) x (omega arith) p, alpha_after)
+  weighted_across l e f g = rw (e, f, g, alpha_before, sym (alpha_own row v (i + 1) (row.strip.left + i) (omega arith) p), alpha_after)
 
--- ---- together
-module _ (strip : Strip) (s : List ℕ) (y : ℕ) (placed : Placed strip) {sums₀ above₀ below₀ sums₁ above₁ below₁ sums₂ above₂ below₂ sums above below : List ℕ} (a : Stored strip.width strip.height s y (strip.left + 1) strip.count 1 sums₀ above₀ below₀ sums₁ above₁ below₁) (b : Stored strip.width strip.height s y strip.left 1 0 sums₁ above₁ below₁ sums₂ above₂ below₂) (c : Stored strip.width strip.height s y (strip.left + strip.count + 1) 1 (strip.count + 1) sums₂ above₂ below₂ sums above below) where
-  abbrev sum_at : ℕ → ℕ
-  sum_at = wide_sum strip.width strip.height s y
+module _ {row : Row} {sums above below : List ℕ} (r : Holds row 0 (row.strip.count + 2) sums above below) (i : ℕ) (p : i < row.strip.count) where
+  inside : row.strip.left + i < row.strip.width
+  inside = let z = row.strip.inside in omega arith
 
-  abbrev above_at : ℕ → ℕ
-  above_at = wide_alpha strip.width s (behind y)
+  across : (v : ℕ) (l : List ℕ) → ((j : ℕ) → 0 ≤ j → j < row.strip.count + 2 → get_or l j 0 ≡ wide_alpha row v j) → weighted_in l i ≡ weighted row.strip.width (λ x. alpha_in row x v) (row.strip.left + i)
+  across v l f = weighted_across row i v inside l (f i (omega arith) (omega arith)) (f (i + 1) (omega arith) (omega arith)) (f (i + 2) (omega arith) (omega arith))
 
-  abbrev below_at : ℕ → ℕ
-  below_at = wide_alpha strip.width s (ahead strip.height y)
+  sum_at : (j x : ℕ) → j < row.strip.count + 2 → min (row.strip.left + j - 1) (row.strip.width - 1) ≡ x → get_or sums j 0 ≡ weighted row.strip.height (alpha_in row x) row.y
+  sum_at j x l e = r.sums_are j (omega arith) l ∙ sym (sum_of row j x e)
 
-  sums_in : (i : ℕ) → i < strip.count + 2 → get_or sums i 0 ≡ sum_at (strip.left + i)
-  sums_in = around sum_at strip.left strip.count a.sums_are b.sums_are c.sums_are
-
-  above_in : (i : ℕ) → i < strip.count + 2 → get_or above i 0 ≡ above_at (strip.left + i)
-  above_in = around above_at strip.left strip.count a.above_are b.above_are c.above_are
-
-  below_in : (i : ℕ) → i < strip.count + 2 → get_or below i 0 ≡ below_at (strip.left + i)
-  below_in = around below_at strip.left strip.count a.below_are b.below_are c.below_are
-
-  pub columns_are : strip.count + 2 ≤ length sums₀ → strip.count + 2 ≤ length above₀ → strip.count + 2 ≤ length below₀ → Columns strip.count sums above below
-  columns_are p q r = record {
-    sums_room = rw (same_around sum_at strip.left strip.count a.sums_are b.sums_are c.sums_are) p;
-    above_room = rw (same_around above_at strip.left strip.count a.above_are b.above_are c.above_are) q;
-    below_room = rw (same_around below_at strip.left strip.count a.below_are b.below_are c.below_are) r;
-    small = λ i l. rw (sums_in i l) (small_around sum_at strip.left strip.count a.small b.small c.small i l);
-  }
-
-  module _ (i : ℕ) (p : i < strip.count) where
-    abbrev column : ℕ
-    column = strip.left + i
-
-    inside : column < strip.width
-    inside = let z = placed.inside in omega arith
-
-    next : strip.left + (i + 1) ≡ column + 1
-    next = omega arith
-
-    beyond : strip.left + (i + 2) ≡ column + 2
-    beyond = omega arith
-
-    sum_ahead : get_or sums (i + 2) 0 ≡ weighted strip.height (alpha_at strip.width s (ahead strip.width column)) y
-    sum_ahead = let z = inside in sums_in (i + 2) (omega arith) ∙ same_sum strip.width strip.height s y (strip.left + (i + 2)) (ahead strip.width column) (omega arith)
-
-    sum_behind : get_or sums i 0 ≡ weighted strip.height (alpha_at strip.width s (behind column)) y
-    sum_behind = let z = inside in sums_in i (omega arith) ∙ same_sum strip.width strip.height s y column (behind column) (omega arith)
-
-    row_in : (v : ℕ) (l : List ℕ) → ((j : ℕ) → j < strip.count + 2 → get_or l j 0 ≡ wide_alpha strip.width s v (strip.left + j)) → weighted_in l i ≡ weighted strip.width (λ x. alpha_at strip.width s x v) column
-    row_in v l f = row_sum_lem strip.width s v column inside l i (f i (omega arith)) (rw next at (f (i + 1) (omega arith))) (rw beyond at (f (i + 2) (omega arith)))
-
-    pub leans_are : normal_in strip sums above below i y ≡ normal_of strip s y i
-    unfolding normal_at lean
-    leans_are = rw (sum_ahead, sum_behind, row_in (behind y) above above_in, row_in (ahead strip.height y) below below_in)
+  pub leans_are : normal_in row sums above below i ≡ normal_of row i
+  unfolding normal_at lean
+  leans_are =
+      let z = inside in
+      rw (
+        sum_at (i + 2) (ahead row.strip.width (row.strip.left + i)) (omega arith) (omega arith),
+        sum_at i (behind (row.strip.left + i)) (omega arith) (omega arith),
+        across (behind row.y) above r.above_are,
+        across (ahead row.strip.height row.y) below r.below_are,
+      )

@@ -1,22 +1,20 @@
 -- The bytes of a pixel are the definition's, and the strips fill the sheet.
 use Prim.Native.Nat.{ℕ, suc, ◌+◌, ◌*◌, ◌≤◌, ◌<◌}
 use mathlib.Core.Path.{◌≡◌, sym, ◌∙◌}
-use mathlib.Core.Bool.{Bool, true, false, cond, ◌&&◌, true≢false}
-use mathlib.Core.List.{List}
+use mathlib.Core.Bool.{Bool, true, false, cond, true≢false}
 use native.Mathlib.Nat.{suc-mul, mul-le-mul_right}
 use native.Mathlib.Omega.{arith}
 use lib.Dec.{leb, leb→le}
-use lib.ListN.{length}
 use lib.Ieee.{Float, neg}
 use Rattle.floats.proofs.Tests.{T_true}
-use Rattle.sheet.specs.declared.Answer.TheVariants.{Done}
+use Rattle.sheet.specs.Answer.{Done}
 use Rattle.sheet.specs.Pixel.{channel, byte_at}
-use Rattle.sheet.specs.Inner.Strips.{Worked}
+use Rattle.sheet.specs.Tabulate.{tabulate}
 use Rattle.sheet.proofs.Answers.{cond_done}
 use Rattle.sheet.proofs.Filling.{channel_of_lem}
-use Rattle.sheet.proofs.Strips.{worked_all}
 use Rattle.sheet.proofs.Places.{rows, column_of_place, row_of_place, channel_of_place}
 use Rattle.turbulence.specs.declared.Turbulence.{Turbulence}
+use Rattle.turbulence.specs.declared.tables.Tables.{Tables}
 use Rattle.turbulence.specs.Constants.{d0, d1, sixteenth, d16, d4096}
 use Rattle.turbulence.specs.Noise.{summed}
 use Rattle.turbulence.specs.Tables.{selector_of, gradients_x, gradients_y}
@@ -24,13 +22,7 @@ use Rattle.turbulence.specs.Turbulence.{both_within, all_finite, all_in_range, t
 use Rattle.turbulence.specs.Inner.Rows.{column_point, row_point}
 use Rattle.turbulence.specs.Inner.Drawn.{byte_by, bytes_by, PixelBy}
 
--- ---- two tests in order
-pub first_fails : (p q : Bool) → p ≡ false → false ≡ (p && q)
-first_fails p q e = rw e
-
-pub second_decides : (p q : Bool) {r : Bool} → p ≡ true → r ≡ q → r ≡ (p && q)
-second_decides p q e f = rw e f
-
+-- ---- tests in order
 then_true : (p q : Bool) → cond p q false ≡ true → q ≡ true
 then_true true q e = e
 then_true false q e = absurd (true≢false (sym e))
@@ -46,8 +38,8 @@ octaves_few t e =
     leb→le t.num_octaves 8 (T_true octaves)
 
 -- a byte of a channel's sum at a pixel
-module _ (t : Turbulence) (selector : List ℕ) (gx gy : List Float) (c x y : ℕ) where
-  pub byte_is : {s : Float} {b : ℕ} → s ≡ summed t.fractal_noise selector gx gy c t.num_octaves (column_point t x) (row_point t y) d1 d0 → b ≡ byte_of t.fractal_noise s → b ≡ byte_by t selector gx gy c x y
+module _ (t : Turbulence) (tables : Tables) (c x y : ℕ) where
+  pub byte_is : {s : Float} {b : ℕ} → s ≡ summed t.fractal_noise tables.selector tables.x tables.y c t.num_octaves (column_point t x) (row_point t y) d1 d0 → b ≡ byte_of t.fractal_noise s → b ≡ byte_by t tables c x y
   unfolding value_by
   byte_is {s} {b} e f = rw (f, e)
 
@@ -56,13 +48,14 @@ module _ (t : Turbulence) (selector : List ℕ) (gx gy : List Float) (c x y : �
 pub row_fits : (w h first count y : ℕ) → first + count ≤ w → y < h → 4 * (y * w + first) + 4 * count ≤ 4 * w * h
 row_fits w h first count y p q = omega (arith, rows w h, suc-mul y w, mul-le-mul_right {m = suc y} {n = h} w q)
 
-module _ (t : Turbulence) (selector : List ℕ) (gx gy : List Float) (w : ℕ) where
-  pub drawn_pixel : (first i y : ℕ) {p : ℕ} → first + i < w → PixelBy t selector gx gy (first + i) y p → (c : ℕ) → c < 4 → channel c p ≡ bytes_by t selector gx gy w (4 * (y * w + first) + (4 * i + c))
+module _ (t : Turbulence) (tables : Tables) (w : ℕ) where
+  pub drawn_pixel : (first i y : ℕ) {p : ℕ} → first + i < w → PixelBy t tables (first + i) y p → (c : ℕ) → c < 4 → channel c p ≡ bytes_by t tables w (4 * (y * w + first) + (4 * i + c))
   drawn_pixel first i y {p} inside q c h =
       let e : 4 * (y * w + first) + (4 * i + c) ≡ byte_at w (first + i) y c = omega arith in
-      channel_of_lem (λ d. byte_by t selector gx gy d (first + i) y) q c h
+      channel_of_lem (λ d. byte_by t tables d (first + i) y) q c h
       ∙ rw (e, column_of_place w (first + i) y c inside h, row_of_place w (first + i) y c inside h, channel_of_place w (first + i) y c inside h)
 
-  pub drawn_all : (h x : ℕ) {d : List ℕ} → selector ≡ selector_of t.seed → gx ≡ gradients_x t.seed → gy ≡ gradients_y t.seed → 0 < w → length d ≡ 4 * w * h → Worked (bytes_by t selector gx gy w) w x 0 0 d → w ≤ x → d ≡ drawn t w h
-  unfolding drawn
-  drawn_all h x {d} e f g p l r m = worked_all w h p l r m ∙ rw (e, f, g)
+-- by the seed's tables the bytes are the result
+pub drawn_by : (t : Turbulence) (tables : Tables) (w h : ℕ) → tables.selector ≡ selector_of t.seed → tables.x ≡ gradients_x t.seed → tables.y ≡ gradients_y t.seed → tabulate (4 * w * h) (bytes_by t tables w) ≡ drawn t w h
+unfolding drawn
+drawn_by t tables w h e f g = rw (e, f, g)

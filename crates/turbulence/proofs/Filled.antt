@@ -1,6 +1,6 @@
 -- A loop that fills a list of any type in order.
 use Prim.Native.Nat.{ℕ, zero, suc, ◌+◌, ◌≤◌, ◌<◌}
-use mathlib.Core.Path.{◌≡◌, refl, sym, ◌∙◌}
+use mathlib.Core.Path.{◌≡◌, refl, sym, subst, ◌∙◌}
 use mathlib.Core.List.{List}
 use native.Mathlib.Nat.{not-suc-le-zero, le_of_suc-le-suc}
 use native.Mathlib.Omega.{arith}
@@ -37,3 +37,10 @@ module _ {A : Type 0} {z : A} {f : ℕ → A} {n : ℕ} {l : List A} where
   filled_all {i} r h =
       ext_get_or z l (tabulate n f) (r.long ∙ sym (length_tabulate n f))
       (λ k b. let b' : k < n = rw r.long at b in r.stored k (omega arith) ∙ sym (element z n f k b'))
+
+-- P holds of each stored element, and of one more
+pub stored_more : {A : Type 0} (P : ℕ → A → Type 0) (l : List A) (i : ℕ) (v : A) → i < length l → ((k : ℕ) (z : A) → k < i → P k (get_or l k z)) → P i v → (k : ℕ) (z : A) → k < i + 1 → P k (get_or (set l i v) k z)
+stored_more P l i v h r p k z b =
+    below_more (λ j. P j (get_or (set l i v) j z)) i
+    (λ j c. subst (P j) (sym (get_or-set_other l i j v z (omega arith))) (r j z c))
+    (subst (P i) (sym (get_or-set_same l i v z h)) p) k b

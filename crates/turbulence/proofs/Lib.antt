@@ -4,15 +4,15 @@ mod Exchange
 pub mod Permuted
 mod Lowered
 pub mod Filled
+mod Made
 mod Draws
 pub mod Entries
-mod Modulo
 mod Nearest
-mod Points
-mod Columns
-mod Octaves
 mod Settled
-mod Bytes
 pub mod Reading
 pub mod Bounded
 pub mod Positions
+mod Octaves
+mod Columns
+mod Bytes
+mod Points

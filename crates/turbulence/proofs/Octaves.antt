@@ -1,36 +1,43 @@
--- The sums over the octaves, of the four channels together: what is left to add leads to the result.
+-- The sums over the octaves, channel by channel: what is left to add leads to the result.
 use Prim.Native.Nat.{ℕ, zero, suc, ◌+◌, ◌-◌, ◌*◌, ◌≤◌, ◌<◌}
 use mathlib.Core.Path.{◌≡◌, refl, sym, ap, ◌∙◌, subst}
 use mathlib.Core.Bool.{Bool, true, false}
-use mathlib.Core.List.{List}
+use mathlib.Core.List.{List, [], ◌∷◌}
 use native.Mathlib.Nat.{not-suc-le-zero, mul-pos}
 use native.Mathlib.Numerals.{add-one}
 use native.Mathlib.Omega.{arith}
-use lib.ListN.{get_or}
+use lib.ListN.{length, get_or}
 use lib.IntN.{ℤ, pos, negsuc}
 use lib.Ieee.{Float, nan, inf, fin, binary64, up, down, unlike, mul, div, of_bits}
 use lib.Ieee.Fits.{up_pos, down_pos}
 use lib.Ieee.Scale.{round_same}
 use Rattle.floats.specs.Operators.{◌⊞◌, ◌⊠◌}
 use Rattle.floats.specs.Absolute.{absolute}
+use Rattle.sheet.specs.Tabulate.{tabulate}
 use Rattle.turbulence.specs.declared.noise.Point.{Point}
-use Rattle.turbulence.specs.declared.noise.Channels.{Channels}
+use Rattle.turbulence.specs.declared.noise.RowOctave.{RowOctave}
+use Rattle.turbulence.specs.declared.noise.ColumnOctave.{ColumnOctave}
+use Rattle.turbulence.specs.declared.tables.Tables.{Tables}
 use Rattle.turbulence.specs.Constants.{d0, d1, d2}
 use Rattle.turbulence.specs.Noise.{corner, point_at, noise, octave, summed}
 use Rattle.turbulence.specs.Inner.Rows.{doubled, RowAt}
 use Rattle.turbulence.specs.Inner.Columns.{point_with, ColumnAt}
-use Rattle.turbulence.specs.Inner.Sums.{with_octave, noises_of, sizes_of, added_to, Inverse, WithOctave, Sum, none}
+use Rattle.turbulence.specs.Inner.Sums.{Inverse, WithOctave, Sums}
 use Rattle.turbulence.proofs.Filled.{element}
 
--- ---- one octave, of the four channels together
-module _ (fractal : Bool) (gx gy : List Float) (p : Point) (inverse : Float) (sum : Channels) where
-  pub as_it_is : {n s : Channels} → fractal ≡ true → n ≡ noises_of gx gy p → s ≡ added_to sum n inverse → WithOctave fractal gx gy p inverse sum s
-  unfolding with_octave octave noises_of added_to
-  as_it_is {n} {s} e f g ratio i = rw (g, f, e, i (noise gx gy 0 p), i (noise gx gy 1 p), i (noise gx gy 2 p), i (noise gx gy 3 p))
+-- ---- one octave
+module _ (fractal : Bool) (tables : Tables) (p : Point) (inverse : Float) (sums : List Float) {n s : List Float} (noises : n ≡ tabulate 4 (λ c. noise tables.x tables.y c p)) where
+  pub as_it_is : fractal ≡ true → s ≡ tabulate 4 (λ c. get_or sums c nan ⊞ get_or n c nan ⊠ inverse) → WithOctave fractal tables p inverse sums s
+  unfolding octave
+  as_it_is e f ratio i c h =
+      let z = ap (λ l. get_or l c nan) noises ∙ element nan 4 _ c h in
+      ap (λ l. get_or l c nan) f ∙ element nan 4 _ c h ∙ rw (z, e, i (noise tables.x tables.y c p))
 
-  pub absolutely : {n m s : Channels} → fractal ≡ false → n ≡ noises_of gx gy p → m ≡ sizes_of n → s ≡ added_to sum m inverse → WithOctave fractal gx gy p inverse sum s
-  unfolding with_octave octave noises_of sizes_of added_to
-  absolutely {n} {m} {s} e f g h ratio i = rw (h, g, f, e, i (absolute (noise gx gy 0 p)), i (absolute (noise gx gy 1 p)), i (absolute (noise gx gy 2 p)), i (absolute (noise gx gy 3 p)))
+  pub absolutely : fractal ≡ false → s ≡ tabulate 4 (λ c. get_or sums c nan ⊞ absolute (get_or n c nan) ⊠ inverse) → WithOctave fractal tables p inverse sums s
+  unfolding octave
+  absolutely e f ratio i c h =
+      let z = ap (λ l. get_or l c nan) noises ∙ element nan 4 _ c h in
+      ap (λ l. get_or l c nan) f ∙ element nan 4 _ c h ∙ rw (z, e, i (absolute (noise tables.x tables.y c p)))
 
 -- ---- a power of two and its inverse
 -- both are one fraction, and round alike
@@ -69,82 +76,62 @@ inverse_at (suc (suc (suc (suc (suc (suc zero)))))) h = inverse_of (pos 6) (negs
 inverse_at (suc (suc (suc (suc (suc (suc (suc zero))))))) h = inverse_of (pos 7) (negsuc 6) refl
 inverse_at (suc (suc (suc (suc (suc (suc (suc (suc k)))))))) h = absurd (omega arith)
 
--- from sum, x, y and ratio on, the octaves that are left lead to the whole sums
-pub record Leads (fractal : Bool) (octaves : ℕ) (selector : List ℕ) (gx gy : List Float) (x0 y0 : Float) (sum : Channels) (x y ratio : Float) (left : ℕ) : Type 0 where
-  pub red : summed fractal selector gx gy 0 left x y ratio sum.r ≡ summed fractal selector gx gy 0 octaves x0 y0 d1 d0
-  pub green : summed fractal selector gx gy 1 left x y ratio sum.g ≡ summed fractal selector gx gy 1 octaves x0 y0 d1 d0
-  pub blue : summed fractal selector gx gy 2 left x y ratio sum.b ≡ summed fractal selector gx gy 2 octaves x0 y0 d1 d0
-  pub alpha : summed fractal selector gx gy 3 left x y ratio sum.a ≡ summed fractal selector gx gy 3 octaves x0 y0 d1 d0
+-- ---- the octaves that are left
+module _ (fractal : Bool) (octaves : ℕ) (tables : Tables) (x0 y0 : Float) where
+  -- channel c's sum over n octaves
+  abbrev sum_of : (c n : ℕ) → (x y ratio sum : Float) → Float
+  sum_of c n x y ratio sum = summed fractal tables.selector tables.x tables.y c n x y ratio sum
 
-module _ (fractal : Bool) (octaves : ℕ) (selector : List ℕ) (gx gy : List Float) (x0 y0 : Float) where
-  leads_start : Leads fractal octaves selector gx gy x0 y0 none x0 y0 d1 octaves
-  leads_start = record { red = refl; green = refl; blue = refl; alpha = refl }
-
-  turn : (c : ℕ) (s t : Float) (x y ratio : Float) (left : ℕ) {end : Float} → 0 < left → t ≡ s ⊞ octave fractal (noise gx gy c (point_at selector x y)) ratio
-      → summed fractal selector gx gy c left x y ratio s ≡ end → summed fractal selector gx gy c (left - 1) (x ⊠ d2) (y ⊠ d2) (ratio ⊠ d2) t ≡ end
+  turn : (c : ℕ) (s t : Float) (x y ratio : Float) (left : ℕ) {end : Float} → 0 < left → t ≡ s ⊞ octave fractal (noise tables.x tables.y c (point_at tables.selector x y)) ratio
+      → sum_of c left x y ratio s ≡ end → sum_of c (left - 1) (x ⊠ d2) (y ⊠ d2) (ratio ⊠ d2) t ≡ end
   unfolding summed
   turn c s t x y ratio zero h e f = absurd (not-suc-le-zero h)
   turn c s t x y ratio (suc left) h e f = let less : suc left - 1 ≡ left = omega arith in rw (e, less) f
 
-  leads_more : (sum s : Channels) (x y ratio : Float) (left : ℕ) (p : Point) → 0 < left → p ≡ point_at selector x y → s ≡ with_octave fractal gx gy p ratio sum
-      → Leads fractal octaves selector gx gy x0 y0 sum x y ratio left → Leads fractal octaves selector gx gy x0 y0 s (x ⊠ d2) (y ⊠ d2) (ratio ⊠ d2) (left - 1)
-  unfolding with_octave
-  leads_more sum s x y ratio left p h e f l =
-      let g = f ∙ ap (λ q. with_octave fractal gx gy q ratio sum) e in
-      record {
-        red = turn 0 sum.r s.r x y ratio left h (ap (λ t. t.r) g) l.red;
-        green = turn 1 sum.g s.g x y ratio left h (ap (λ t. t.g) g) l.green;
-        blue = turn 2 sum.b s.b x y ratio left h (ap (λ t. t.b) g) l.blue;
-        alpha = turn 3 sum.a s.a x y ratio left h (ap (λ t. t.a) g) l.alpha;
-      }
-
-  end_at : (c : ℕ) (s x y ratio : Float) (left : ℕ) {end : Float} → left ≤ 0 → summed fractal selector gx gy c left x y ratio s ≡ end → s ≡ end
+  end_at : (c : ℕ) (s x y ratio : Float) (left : ℕ) {end : Float} → left ≤ 0 → sum_of c left x y ratio s ≡ end → s ≡ end
   unfolding summed
   end_at c s x y ratio zero h f = f
   end_at c s x y ratio (suc left) h f = absurd (not-suc-le-zero h)
 
-  leads_done : (s : Channels) (x y ratio : Float) (left : ℕ) → left ≤ 0 → Leads fractal octaves selector gx gy x0 y0 s x y ratio left → Sum fractal octaves selector gx gy x0 y0 d1 none s
-  leads_done s x y ratio left h l = record {
-    red = end_at 0 s.r x y ratio left h l.red;
-    green = end_at 1 s.g x y ratio left h l.green;
-    blue = end_at 2 s.b x y ratio left h l.blue;
-    alpha = end_at 3 s.a x y ratio left h l.alpha;
-  }
+  -- from the octave k on, what is left leads from these sums to the whole ones
+  abbrev pub LeadsAt : List Float → ℕ → Type 0
+  LeadsAt sums k = (c : ℕ) → c < 4 → sum_of c (octaves - k) (doubled k x0) (doubled k y0) (doubled k d1) (get_or sums c nan) ≡ sum_of c octaves x0 y0 d1 d0
 
--- ---- at the octaves of a row
+  pub leads_start : LeadsAt (d0 ∷ d0 ∷ d0 ∷ d0 ∷ []) 0
+  unfolding doubled
+  leads_start c h = let e : octaves - 0 ≡ octaves = omega arith in rw (e, none c h) refl
+    where
+      none : (c : ℕ) → c < 4 → get_or (d0 ∷ d0 ∷ d0 ∷ d0 ∷ []) c nan ≡ d0
+      none zero h = refl
+      none (suc zero) h = refl
+      none (suc (suc zero)) h = refl
+      none (suc (suc (suc zero))) h = refl
+      none (suc (suc (suc (suc c)))) h = absurd (omega arith)
+
+  -- the point of the column's and the row's octave k
+  point_there : (column : List ColumnOctave) (row : List RowOctave) (k : ℕ) (i : ColumnOctave) (j : RowOctave) {p : Point} → k < 8 → k < length column → ColumnAt tables x0 column → RowAt y0 row
+      → p ≡ point_with tables (get_or column k i) (get_or row k j) → p ≡ point_at tables.selector (doubled k x0) (doubled k y0)
+  unfolding point_at corner
+  point_there column row k i j {p} h l a r e =
+      let u = ap (λ v. get_or v k i) a ∙ element i (length column) _ k l in
+      let v = ap (λ w. get_or w k j) r ∙ element j 8 _ k h in
+      e ∙ rw (u, v) refl
+
+  pub leads_more : (column : List ColumnOctave) (row : List RowOctave) (k : ℕ) (i : ColumnOctave) (j : RowOctave) (sums s : List Float) {p : Point} {inverse : Float} → octaves ≤ 8 → octaves ≡ length column → k < octaves
+      → ColumnAt tables x0 column → RowAt y0 row → p ≡ point_with tables (get_or column k i) (get_or row k j) → inverse ≡ halved k → WithOctave fractal tables p inverse sums s → LeadsAt sums k → LeadsAt s (k + 1)
+  unfolding doubled
+  leads_more column row k i j sums s {p} {inverse} few long h a r e q w l c b =
+      let fewer : octaves - (k + 1) ≡ octaves - k - 1 = omega arith in
+      let below : k < 8 = omega arith in
+      let inside : k < length column = omega arith in
+      let point = point_there column row k i j below inside a r e in
+      let ratio = subst (Inverse (doubled k d1)) (sym q) (inverse_at k below) in
+      let added = w (doubled k d1) ratio c b ∙ ap (λ o. get_or sums c nan ⊞ octave fractal (noise tables.x tables.y c o) (doubled k d1)) point in
+      rw (fewer, add-one) (turn c (get_or sums c nan) (get_or s c nan) (doubled k x0) (doubled k y0) (doubled k d1) (octaves - k) (omega arith) added (l c b))
+
+  pub leads_done : (s : List Float) (k : ℕ) → octaves ≤ k → LeadsAt s k → Sums fractal octaves tables x0 y0 s
+  leads_done s k h l c b = end_at c (get_or s c nan) (doubled k x0) (doubled k y0) (doubled k d1) (octaves - k) (omega arith) (l c b)
+
 pub doubled_once : (k : ℕ) (y0 y : Float) → y ≡ doubled k y0 → y ⊠ d2 ≡ doubled (k + 1) y0
 unfolding doubled
 doubled_once k y0 y e = rw (add-one, e)
-
--- the point of a row and of a column
-point_there : (selector cells : List ℕ) (fractions curves : List Float) (octaves : ℕ) (x0 y0 : Float) (start : ℕ) (lower upper : List ℕ) (across : List Float) (k : ℕ) {p : Point} → k < 8 → k < octaves → RowAt y0 cells fractions curves → ColumnAt selector octaves x0 start lower upper across
-    → p ≡ point_with selector (get_or lower (start + k) 0) (get_or upper (start + k) 0) (get_or across (start + k) nan) (get_or cells k 0) (get_or fractions k nan) (get_or curves k nan) → p ≡ point_at selector (doubled k x0) (doubled k y0)
-unfolding point_at corner
-point_there selector cells fractions curves octaves x0 y0 start lower upper across k {p} h l r a e =
-    let b = ap (λ l. get_or l k 0) r.cells_are ∙ element 0 8 _ k h in
-    let f = ap (λ l. get_or l k nan) r.fractions_are ∙ element nan 8 _ k h in
-    let s = ap (λ l. get_or l k nan) r.curves_are ∙ element nan 8 _ k h in
-    rw (e, a.lower_is k l, a.upper_is k l, a.across_is k l, b, f, s)
-
-module _ (fractal : Bool) (octaves : ℕ) (selector : List ℕ) (gx gy : List Float) (x0 y0 : Float) where
-  -- at the octave k
-  abbrev pub LeadsAt : Channels → ℕ → Type 0
-  LeadsAt sum k = Leads fractal octaves selector gx gy x0 y0 sum (doubled k x0) (doubled k y0) (doubled k d1) (octaves - k)
-
-  pub row_start : LeadsAt none 0
-  unfolding doubled
-  row_start = let e : octaves - 0 ≡ octaves = omega arith in rw e (leads_start fractal octaves selector gx gy x0 y0)
-
-  pub row_more : (cells : List ℕ) (fractions curves : List Float) (start : ℕ) (lower upper : List ℕ) (across : List Float) (sum s : Channels) (inverse : Float) (k : ℕ) (p : Point) → octaves ≤ 8 → k < octaves
-      → p ≡ point_with selector (get_or lower (start + k) 0) (get_or upper (start + k) 0) (get_or across (start + k) nan) (get_or cells k 0) (get_or fractions k nan) (get_or curves k nan)
-      → ColumnAt selector octaves x0 start lower upper across → inverse ≡ halved k → WithOctave fractal gx gy p inverse sum s → RowAt y0 cells fractions curves → LeadsAt sum k → LeadsAt s (k + 1)
-  unfolding doubled
-  row_more cells fractions curves start lower upper across sum s inverse k p few h e a i f r l =
-      let fewer : octaves - (k + 1) ≡ octaves - k - 1 = omega arith in
-      let below : k < 8 = omega arith in
-      let point = point_there selector cells fractions curves octaves x0 y0 start lower upper across k below h r a e in
-      let octave = f (doubled k d1) (subst (Inverse (doubled k d1)) (sym i) (inverse_at k below)) in
-      rw (fewer, add-one) (leads_more fractal octaves selector gx gy x0 y0 sum s (doubled k x0) (doubled k y0) (doubled k d1) (octaves - k) p (omega arith) point octave l)
-
-  pub row_done : (s : Channels) (k : ℕ) → octaves ≤ k → LeadsAt s k → Sum fractal octaves selector gx gy x0 y0 d1 none s
-  row_done s k h l = leads_done fractal octaves selector gx gy x0 y0 s (doubled k x0) (doubled k y0) (doubled k d1) (octaves - k) (omega arith) l

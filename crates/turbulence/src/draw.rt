@@ -2,15 +2,21 @@
 ghost use Rattle.std.specs.Prelude.{◌≡◌, ◌+◌, ◌*◌, ◌≤◌, ◌<◌, T, length};
 ghost use Rattle.floats.specs.Inner.Steps.{up_to};
 ghost use Rattle.sheet.specs.Size.{Sized, side_limit};
+ghost use Rattle.sheet.specs.Tabulate.{tabulate};
 ghost use Rattle.sheet.specs.Inner.Strips.{strip_limit, Worked};
 ghost use Rattle.turbulence.specs.Turbulence.{point_on, scaled_sum, byte_of, drawn};
 ghost use Rattle.turbulence.specs.Inner.Levels.{level_of, Parts};
 ghost use Rattle.turbulence.specs.Inner.Columns.{ColumnsOf};
 ghost use Rattle.turbulence.specs.Inner.Drawn.{bytes_by, PixelIn, RowDrawn};
 
-use crate::noise::COLUMNS;
+use crate::noise::{ColumnOctave, OCTAVES, RowOctave};
+use crate::tables::Tables;
 use crate::{Turbulence, noise, tables};
+use sheet::STRIP;
 use sheet::pixel::Straight;
+
+// Room for each octave of the most columns of a strip.
+const COLUMNS: usize = STRIP * OCTAVES;
 
 // The point of pixel n on an axis, in user space and times the frequency.
 fn point_on(offset: f64, scale: f64, frequency: f64, n: usize) -> f64
@@ -53,143 +59,123 @@ fn byte_of(fractal: bool, n: f64) -> u8
     ensures { result ≡ byte_of fractal n }
 {
     let value = scaled_sum(fractal, n);
-    if value > 0.0 {
-        if value < 255.0 {
-            let parts = parts_of(value);
-            if 1 < parts % 65536 {
-                return (parts / 65536) as u8;
-            }
+    if value > 0.0 && value < 255.0 {
+        let parts = parts_of(value);
+        if 1 < parts % 65536 {
+            return (parts / 65536) as u8;
         }
     }
     level_of(value)
 }
 
-// The pixel of the column in place i and a row.
-fn pixel<'a>(
+// The columns of a strip of a sheet: as many as `count` from column `first` on.
+#[derive(Clone, Copy)]
+struct Strip {
+    width: usize,
+    first: usize,
+    count: usize,
+    ghost inside: { first + count ≤ width },
+    ghost low: { width ≤ side_limit },
+    ghost few: { count ≤ strip_limit },
+}
+
+// A turbulence that passed its tests, and the tables of its seed.
+#[derive(Clone, Copy)]
+struct Drawing<'a> {
     t: Turbulence,
-    selector: &[u8; 514],
-    gx: &[f64; 2056],
-    gy: &[f64; 2056],
-    lower: &[u8; COLUMNS],
-    upper: &[u8; COLUMNS],
-    across: &[f64; COLUMNS],
-    cells: &'a [u8; 8],
-    fractions: &'a [f64; 8],
-    curves: &'a [f64; 8],
-    i: usize,
-) -> Straight
-    requires { (t.num_octaves ≤ 8) × (i < strip_limit) }
-    ensures { PixelIn t selector.now gx.now gy.now lower.now upper.now across.now cells.now fractions.now curves.now i result.0 }
-{
-    let sum = noise::turbulence(
-        t, selector, gx, gy, lower, upper, across, cells, fractions, curves, i,
-    );
-    Straight::of(
-        byte_of(t.fractal_noise, sum.r),
-        byte_of(t.fractal_noise, sum.g),
-        byte_of(t.fractal_noise, sum.b),
-        byte_of(t.fractal_noise, sum.a),
+    tables: &'a Tables,
+    ghost few_octaves: { t.num_octaves ≤ 8 },
+}
+
+impl Drawing<'_> {
+    // The pixel of a column and a row.
+    fn pixel(&self, column: &[ColumnOctave], row: &[RowOctave; OCTAVES]) -> Straight
+        requires { length column.now ≡ self.now.t.num_octaves }
+        ensures { PixelIn self.now.t self.now.tables.now column.now row.now result.number }
+    {
+        let fractal = self.t.fractal_noise;
+        let [r, g, b, a] = noise::turbulence(fractal, self.tables, column, row);
+        Straight::of(
+            byte_of(fractal, r),
+            byte_of(fractal, g),
+            byte_of(fractal, b),
+            byte_of(fractal, a),
+        )
+    }
+
+    // Row y of the strip is drawn.
+    fn draw_row(&self, columns: &[ColumnOctave; COLUMNS], strip: Strip, y: usize, dest: &mut [u8])
+        requires low { y < side_limit }
+        requires room { 4 * (y * strip.width + strip.first) + 4 * strip.count ≤ length dest.old }
+        requires columns_of { ColumnsOf self.now.t self.now.tables.now strip.first strip.count columns.now }
+        ensures { RowDrawn self.now.t self.now.tables.now strip.width y strip.first strip.count dest.old dest.new }
+    {
+        let t = &self.t;
+        let octaves = t.num_octaves as usize;
+        let row = noise::row_at(point_on(t.offset_y, t.sy, t.base_frequency_y, y));
+        let start = 4 * (y * strip.width + strip.first);
+        for i in 0..strip.count {
+            let column = &columns[i * octaves..i * octaves + octaves];
+            self.pixel(column, &row).put(dest, start + 4 * i);
+        }
+    }
+
+    // Every row of the strip is drawn. Inlined, it costs 8 KB of stack.
+    #[inline(never)]
+    fn draw_rows(
+        &self,
+        columns: &[ColumnOctave; COLUMNS],
+        strip: Strip,
+        height: usize,
+        dest: &mut [u8],
     )
-}
+        requires high { height ≤ side_limit }
+        requires long { length dest.old ≡ 4 * strip.width * height }
+        requires columns_of { ColumnsOf self.now.t self.now.tables.now strip.first strip.count columns.now }
+        requires before { Worked (bytes_by self.now.t self.now.tables.now strip.width) strip.width strip.first strip.count 0 dest.old }
+        ensures worked { Worked (bytes_by self.now.t self.now.tables.now strip.width) strip.width strip.first strip.count height dest.new }
+        ensures same { length dest.new ≡ length dest.old }
+    {
+        for y in 0..height {
+            self.draw_row(columns, strip, y, dest);
+        }
+    }
 
-// Row y is drawn in the `count` columns from column `first` on.
-fn draw_row(
-    t: Turbulence,
-    selector: &[u8; 514],
-    gx: &[f64; 2056],
-    gy: &[f64; 2056],
-    lower: &[u8; COLUMNS],
-    upper: &[u8; COLUMNS],
-    across: &[f64; COLUMNS],
-    y: usize,
-    width: usize,
-    first: usize,
-    count: usize,
-    dest: &mut [u8],
-)
-    requires num_octaves_bound { (t.num_octaves ≤ 8) × (y < side_limit) × (first + count ≤ width) × (count ≤ strip_limit) }
-    requires count_in_bounds { (4 * (y * width + first) + 4 * count ≤ length dest.old) × ColumnsOf t selector.now first count lower.now upper.now across.now }
-    ensures { RowDrawn t selector.now gx.now gy.now width y first count dest.old dest.new }
-{
-    let row = noise::row_at(point_on(t.offset_y, t.sy, t.base_frequency_y, y));
-    let start = 4 * (y * width + first);
-    let mut i: usize = 0;
-    while i < count {
-        let drawn = pixel(
-            t,
-            selector,
-            gx,
-            gy,
-            lower,
-            upper,
-            across,
-            &row.cells,
-            &row.fractions,
-            &row.curves,
-            i,
-        );
-        sheet::pixel::put_straight(dest, start + 4 * i, drawn);
-        i += 1;
+    // The strip's columns are stored one after the other, once for all the rows.
+    fn store_columns(&self, strip: Strip, columns: &mut [ColumnOctave; COLUMNS])
+        ensures { ColumnsOf self.now.t self.now.tables.now strip.first strip.count columns.new }
+    {
+        let t = &self.t;
+        let octaves = t.num_octaves as usize;
+        for i in 0..strip.count {
+            let x0 = point_on(t.offset_x, t.sx, t.base_frequency_x, strip.first + i);
+            let column = &mut columns[i * octaves..i * octaves + octaves];
+            noise::store_column(self.tables, x0, column);
+        }
+    }
+
+    // Every pixel of `dest` is written, strip by strip. Inlined, its columns would lie beside what the tables are made of.
+    #[inline(never)]
+    fn draw_strips(&self, width: usize, height: usize, dest: &mut [u8])
+        requires sized { Sized width height }
+        requires long { length dest.old ≡ 4 * width * height }
+        ensures { dest.new ≡ tabulate (4 * width * height) (bytes_by self.now.t self.now.tables.now width) }
+    {
+        let mut columns = [ColumnOctave::default(); COLUMNS];
+        for first in (0..width).step_by(STRIP) {
+            let count = sheet::strip_from(width, first);
+            let strip = Strip {
+                width,
+                first,
+                count,
+            };
+            self.store_columns(strip, &mut columns);
+            self.draw_rows(&columns, strip, height, dest);
+        }
     }
 }
 
-// Every row is drawn in the `count` columns from column `first` on. Inlined, it costs 8 KB of stack.
-#[inline(never)]
-fn draw_rows(
-    t: Turbulence,
-    selector: &[u8; 514],
-    gx: &[f64; 2056],
-    gy: &[f64; 2056],
-    lower: &[u8; COLUMNS],
-    upper: &[u8; COLUMNS],
-    across: &[f64; COLUMNS],
-    width: usize,
-    height: usize,
-    first: usize,
-    count: usize,
-    dest: &mut [u8],
-)
-    requires num_octaves_bound { (t.num_octaves ≤ 8) × (height ≤ side_limit) × (first + count ≤ width) × (count ≤ strip_limit) }
-    requires dest_len { (length dest.old ≡ 4 * width * height) × ColumnsOf t selector.now first count lower.now upper.now across.now }
-    requires worked_2 { Worked (bytes_by t selector.now gx.now gy.now width) width first count 0 dest.old }
-    ensures worked { Worked (bytes_by t selector.now gx.now gy.now width) width first count height dest.new }
-    ensures same { length dest.new ≡ length dest.old }
-{
-    let mut y: usize = 0;
-    while y < height {
-        draw_row(
-            t, selector, gx, gy, lower, upper, across, y, width, first, count, dest,
-        );
-        y += 1;
-    }
-}
-
-// The `count` columns from column `first` on are stored one after the other, once for all the rows.
-fn fill_columns(
-    t: Turbulence,
-    selector: &[u8; 514],
-    first: usize,
-    count: usize,
-    lower: &mut [u8],
-    upper: &mut [u8],
-    across: &mut [f64],
-)
-    requires num_octaves_bound { (t.num_octaves ≤ 8) × (first + count ≤ side_limit) × (count ≤ strip_limit) }
-    requires lower_len { (length lower.old ≡ 8 * strip_limit) × (length upper.old ≡ 8 * strip_limit) × (length across.old ≡ 8 * strip_limit) }
-    ensures { ColumnsOf t selector.now first count lower.new upper.new across.new }
-{
-    let octaves = t.num_octaves as usize;
-    let mut start: usize = 0;
-    let mut i: usize = 0;
-    while i < count {
-        let x0 = point_on(t.offset_x, t.sx, t.base_frequency_x, first + i);
-        noise::column_at(octaves, selector, x0, start, lower, upper, across);
-        start += octaves;
-        i += 1;
-    }
-}
-
-// Every pixel of `dest` is written, strip by strip.
+// Every pixel of `dest` is written.
 pub fn draw(t: Turbulence, width: usize, height: usize, dest: &mut [u8])
     requires sized { Sized width height }
     requires dest_len { length dest.old ≡ 4 * width * height }
@@ -197,19 +183,6 @@ pub fn draw(t: Turbulence, width: usize, height: usize, dest: &mut [u8])
     ensures { dest.new ≡ drawn t width height }
 {
     let tables = tables::init(t.seed);
-    let selector = tables.selector;
-    let gx = tables.x;
-    let gy = tables.y;
-    let mut lower = [0u8; COLUMNS];
-    let mut upper = [0u8; COLUMNS];
-    let mut across = [0.0f64; COLUMNS];
-    let mut x: usize = 0;
-    while x < width {
-        let n = sheet::strip_from(width, x);
-        fill_columns(t, &selector, x, n, &mut lower, &mut upper, &mut across);
-        draw_rows(
-            t, &selector, &gx, &gy, &lower, &upper, &across, width, height, x, n, dest,
-        );
-        x += n;
-    }
+    let drawing = Drawing { t, tables: &tables };
+    drawing.draw_strips(width, height, dest);
 }

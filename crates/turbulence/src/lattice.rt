@@ -15,11 +15,7 @@ pub struct Place {
 fn wrapped(n: i32) -> usize
     ensures { (result ≡ Noise.wrapped n) × (result < 256) }
 {
-    if n < 0 {
-        255 - (-1 - n) as usize % 256
-    } else {
-        n as usize % 256
-    }
+    n.rem_euclid(256) as usize
 }
 
 // The lattice position of t, cut toward zero.
@@ -63,13 +59,12 @@ fn near_place(t: f64) -> Place
 pub fn place_of(t: f64) -> Place
     ensures { Placed t result }
 {
-    if t > 0.0 {
-        if t < 2147483647.0 {
-            return near_place(t);
+    if t > 0.0 && t < 2147483647.0 {
+        near_place(t)
+    } else {
+        Place {
+            cell: cell(t),
+            fraction: fraction(t),
         }
-    }
-    Place {
-        cell: cell(t),
-        fraction: fraction(t),
     }
 }

@@ -9,9 +9,9 @@ mod tables;
 
 ghost use Rattle.std.specs.Prelude.{◌≡◌};
 ghost use Rattle.sheet.specs.Contract.{lent, Filtered};
-ghost use Rattle.turbulence.specs.Turbulence.{both_finite, both_within, all_finite, all_in_range, turbulence_answer, answer, drawn};
+ghost use Rattle.turbulence.specs.Turbulence.{both_within, all_finite, all_in_range, turbulence_answer, answer, drawn};
 
-use sheet::{Answer, Refusal};
+use sheet::Refusal;
 
 // What to draw. `offset_x` and `offset_y` are the filter region's offset, `sx` and `sy` the canvas scale.
 #[derive(Clone, Copy)]
@@ -30,77 +30,57 @@ pub struct Turbulence {
 // The most octaves.
 const OCTAVE_LIMIT: u32 = 8;
 
-fn both_finite(x: f64, y: f64) -> bool
-    ensures { result ≡ both_finite x y }
+fn all_finite(t: Turbulence) -> bool
+    ensures { result ≡ all_finite t }
 {
-    if floats::is_finite64(x) {
-        floats::is_finite64(y)
-    } else {
-        false
-    }
+    [
+        t.offset_x,
+        t.offset_y,
+        t.sx,
+        t.sy,
+        t.base_frequency_x,
+        t.base_frequency_y,
+    ]
+    .iter()
+    .all(|x| floats::is_finite(*x))
 }
 
 fn both_within(lo: f64, x: f64, y: f64, hi: f64) -> bool
     ensures { result ≡ both_within lo x y hi }
 {
-    if floats::within64(lo, x, hi) {
-        floats::within64(lo, y, hi)
-    } else {
-        false
-    }
-}
-
-fn all_finite(t: Turbulence) -> bool
-    ensures { result ≡ all_finite t }
-{
-    if !both_finite(t.offset_x, t.offset_y) {
-        return false;
-    }
-    if !both_finite(t.sx, t.sy) {
-        return false;
-    }
-    both_finite(t.base_frequency_x, t.base_frequency_y)
+    floats::within(lo, x, hi) && floats::within(lo, y, hi)
 }
 
 fn all_in_range(t: Turbulence) -> bool
     ensures { result ≡ all_in_range t }
 {
-    if !both_within(-4096.0, t.offset_x, t.offset_y, 4096.0) {
-        return false;
-    }
-    if !both_within(0.0625, t.sx, t.sy, 16.0) {
-        return false;
-    }
-    if !both_within(0.0, t.base_frequency_x, t.base_frequency_y, 16.0) {
-        return false;
-    }
-    t.num_octaves <= OCTAVE_LIMIT
+    let offsets = both_within(-4096.0, t.offset_x, t.offset_y, 4096.0);
+    let scales = both_within(0.0625, t.sx, t.sy, 16.0);
+    let frequencies = both_within(0.0, t.base_frequency_x, t.base_frequency_y, 16.0);
+    offsets && scales && frequencies && t.num_octaves <= OCTAVE_LIMIT
 }
 
 // Tests 4 and 5.
-pub fn test(t: Turbulence) -> Answer
+pub fn test(t: Turbulence) -> Result<(), Refusal>
     ensures { result ≡ turbulence_answer t }
 {
     if !all_finite(t) {
-        return Answer::Refused(Refusal::NotFinite, 0);
+        return Err(Refusal::NotFinite);
     }
     if !all_in_range(t) {
-        return Answer::Refused(Refusal::Range, 0);
+        return Err(Refusal::Range);
     }
-    Answer::Done
+    Ok(())
 }
 
 // Applies a turbulence filter. It reads no sheet.
 //
 // `dest` pixels will have an unpremultiplied alpha.
-pub fn apply(t: Turbulence, width: usize, height: usize, dest: &mut [u8]) -> Answer
+pub fn apply(t: Turbulence, width: usize, height: usize, dest: &mut [u8]) -> Result<(), Refusal>
     ensures { Filtered (answer t width height dest.old) result (drawn t width height) (lent dest.old dest.new) }
 {
-    let sheets = sheet::test1(width, height, dest.len());
-    let tested = sheet::and_then(sheets, test(t));
-    let Answer::Done = tested else {
-        return tested;
-    };
+    sheet::test(width, height, &[dest.len()])?;
+    test(t)?;
     draw::draw(t, width, height, dest);
-    Answer::Done
+    Ok(())
 }

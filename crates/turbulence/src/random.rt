@@ -7,7 +7,7 @@ pub fn random(state: u32) -> u32
     requires { State state }
     ensures { (result ≡ next state) × State result }
 {
-    (16807 * (state as u64) % 2147483647) as u32
+    (16807 * u64::from(state) % 2147483647) as u32
 }
 
 // The state at which a seed starts.
@@ -19,9 +19,5 @@ pub fn start(seed: i32) -> u32
     } else {
         seed
     };
-    if positive > 2147483646 {
-        2147483646
-    } else {
-        positive as u32
-    }
+    (positive as u32).min(2147483646)
 }

@@ -1,16 +1,19 @@
 // The tables of a seed: 514 selector entries, and four sets of 514 gradient pairs side by side.
 // What fills arrays is not inlined, so that its stack is given back when it returns and not held through all of `draw`.
-ghost use Rattle.std.specs.Prelude.{◌≡◌};
+ghost use Rattle.std.specs.Prelude.{◌≡◌, ◌+◌, ◌<◌, get_or};
 ghost use Rattle.sheet.specs.Tabulate.{tabulate};
 ghost use Rattle.turbulence.specs.Random.{State, next};
 ghost use Rattle.turbulence.specs.Selector.{order, selector};
 ghost use Rattle.turbulence.specs.Gradient.{component, pair_length, gradient_x, gradient_y, after_pairs, drawn_x, drawn_y, side_by_side};
+ghost use Rattle.turbulence.specs.Noise.{along};
 ghost use Rattle.turbulence.specs.Tables.{selector_of, gradients_x, gradients_y};
 
 use crate::random::{random, start};
-use floats::sqrt64;
+use floats::sqrt;
+use std::array;
 
-// Number 4 i + c of `x` and of `y` is entry i of channel c.
+// Number 4 i + c of `x` and of `y` is entry i of channel c. Two arrays, as `gradients_x` and `gradients_y` of specs/Tables, which
+// theorems speak of, are two lists.
 #[derive(Drop)]
 pub struct Tables {
     pub selector: [u8; 514],
@@ -18,18 +21,34 @@ pub struct Tables {
     pub y: [f64; 2056],
 }
 
+impl Tables {
+    // The gradient number of the corner whose column has the selector's entry i, in row j.
+    pub fn corner(&self, i: u8, j: usize) -> usize
+        requires { j < 256 }
+        ensures { (result ≡ get_or self.now.selector (i + j) 0) × (result < 256) }
+    {
+        usize::from(self.selector[usize::from(i) + j])
+    }
+
+    // Channel c's gradient of the corner b, along (rx, ry).
+    pub fn along(&self, c: usize, b: usize, rx: f64, ry: f64) -> f64
+        requires { (c < 4) × (b < 256) }
+        ensures { result ≡ along self.now.x self.now.y c b rx ry }
+    {
+        rx * self.x[4 * b + c] + ry * self.y[4 * b + c]
+    }
+}
+
 // The tables of any seed. A pair whose length is 0 is NaN, as in the Rust, and the seed still draws.
+#[inline(never)]
 pub fn init(seed: i32) -> Tables
     ensures { (result.selector ≡ selector_of seed) × (result.x ≡ gradients_x seed) × (result.y ≡ gradients_y seed) }
 {
     let drawn = draw_pairs(start(seed));
-    let x = drawn.x;
-    let y = drawn.y;
-    let state = drawn.state;
     Tables {
-        selector: lattice_selector(state),
-        x: side_by_side(&x),
-        y: side_by_side(&y),
+        selector: lattice_selector(drawn.state),
+        x: side_by_side(&drawn.x),
+        y: side_by_side(&drawn.y),
     }
 }
 
@@ -44,7 +63,7 @@ fn component_of(state: u32) -> f64
 fn pair_length(u: f64, v: f64) -> f64
     ensures { result ≡ pair_length u v }
 {
-    sqrt64(u * u + v * v)
+    sqrt(u * u + v * v)
 }
 
 // A pair of length 1, and the state after its draws.
@@ -71,7 +90,8 @@ fn draw_pair(state: u32) -> Drawn
     }
 }
 
-// The pairs in the order of the draws, channel by channel, and the state after them.
+// The pairs in the order of the draws, channel by channel, and the state after them. Two arrays, as `drawn_x` and `drawn_y` of
+// specs/Gradient.
 #[derive(Clone, Copy)]
 struct Pairs {
     x: [f64; 1024],
@@ -84,22 +104,18 @@ fn draw_pairs(state: u32) -> Pairs
     requires { State state }
     ensures { (result.x ≡ drawn_x state) × (result.y ≡ drawn_y state) × (result.state ≡ after_pairs 1024 state) × State result.state }
 {
-    let mut x = [0.0f64; 1024];
-    let mut y = [0.0f64; 1024];
-    let mut s = state;
-    let mut d: usize = 0;
-    while d < 1024 {
-        let drawn = draw_pair(s);
-        x[d] = drawn.x;
-        y[d] = drawn.y;
-        s = drawn.state;
-        d += 1;
+    let mut pairs = Pairs {
+        x: [0.0; 1024],
+        y: [0.0; 1024],
+        state,
+    };
+    for d in 0..1024 {
+        let drawn = draw_pair(pairs.state);
+        pairs.x[d] = drawn.x;
+        pairs.y[d] = drawn.y;
+        pairs.state = drawn.state;
     }
-    Pairs {
-        x: x,
-        y: y,
-        state: s,
-    }
+    pairs
 }
 
 // The four channels' entries side by side; those from 256 on repeat the first.
@@ -107,26 +123,14 @@ fn draw_pairs(state: u32) -> Pairs
 fn side_by_side(drawn: &[f64; 1024]) -> [f64; 2056]
     ensures { result ≡ side_by_side drawn.now }
 {
-    let mut table = [0.0f64; 2056];
-    let mut k: usize = 0;
-    while k < 2056 {
-        table[k] = drawn[256 * (k % 4) + k / 4 % 256];
-        k += 1;
-    }
-    table
+    array::from_fn(|k| drawn[256 * (k % 4) + k / 4 % 256])
 }
 
 // 0..=255.
 fn count_up() -> [u8; 256]
     ensures { result ≡ tabulate 256 (λ k. k) }
 {
-    let mut places = [0u8; 256];
-    let mut k: usize = 0;
-    while k < 256 {
-        places[k] = k as u8;
-        k += 1;
-    }
-    places
+    array::from_fn(|k| k as u8)
 }
 
 // Places 255 down to 1 of 0..=255 are each exchanged with the place that the next state draws.
@@ -136,14 +140,9 @@ fn shuffled(state: u32) -> [u8; 256]
 {
     let mut places = count_up();
     let mut drawn = state;
-    let mut i: usize = 255;
-    while 0 < i {
+    for i in (1..256).rev() {
         drawn = random(drawn);
-        let j = (drawn % 256) as usize;
-        let kept = places[i];
-        places[i] = places[j];
-        places[j] = kept;
-        i -= 1;
+        places.swap(i, (drawn % 256) as usize);
     }
     places
 }
@@ -155,11 +154,5 @@ fn lattice_selector(state: u32) -> [u8; 514]
     ensures { result ≡ selector state }
 {
     let places = shuffled(state);
-    let mut table = [0u8; 514];
-    let mut n: usize = 0;
-    while n < 514 {
-        table[n] = places[n % 256];
-        n += 1;
-    }
-    table
+    array::from_fn(|n| places[n % 256])
 }

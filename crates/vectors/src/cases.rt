@@ -3,78 +3,91 @@
 // padded to a whole number of words.
 ghost use Rattle.std.specs.Prelude.{◌<◌};
 
-use stored::sheets::Stored;
-use stored::{sheets, words};
+use crate::called::NotCalled;
+use stored::sheets::Sheet;
+use stored::words::Words;
 
-// A case: what stands in its words, and where its parameters stand.
+// A case: what stands in its words, and its parameters.
 #[derive(Clone, Copy)]
-pub struct Case {
+pub struct Case<'a> {
     pub code: u32,
     pub width: usize,
     pub height: usize,
-    pub parameters: usize,
-    pub parameter_count: usize,
-    pub sheet_count: usize,
-    pub sheets: Sheets,
+    pub parameters: Words<'a>,
+    pub parameter_count: u32,
+    pub sheet_count: u32,
+    pub sheets: Sheets<'a>,
 }
 
-// Up to three sheets, of which those that the case lacks are empty, and where the answer stands between their bytes before the
+// Up to three sheets, of which those that the case lacks are empty, and the answer, which stands between their bytes before the
 // call and after it.
 #[derive(Clone, Copy)]
-pub struct Sheets {
-    pub first: Stored,
-    pub second: Stored,
-    pub third: Stored,
-    pub answer: usize,
+pub struct Sheets<'a> {
+    pub first: Sheet<'a>,
+    pub second: Sheet<'a>,
+    pub third: Sheet<'a>,
+    pub answer: Words<'a>,
 }
 
-// The case at `at`. What stands past the end of the list counts as zeros.
-pub fn read(list: &[u8], at: usize) -> Case
-    requires { at < 4294967296 }
-    ensures { at < result.sheets.third.end }
+// The case that `words` begin with. What stands past the end of the list counts as zeros.
+pub fn read<'a>(words: Words<'a>) -> Case<'a>
+    requires { words.at < 4294967296 }
+    ensures { words.entry.at < result.sheets.third.rest.at }
 {
-    let parameter_count = words::count_at(list, at + 12);
-    let counted = at + 16 + 4 * parameter_count;
-    let sheet_count = words::count_at(list, counted);
+    let parameters = words.skip(4);
+    let parameter_count = words.word(3);
+    let counted = parameters.skip(parameter_count as usize);
+    let sheet_count = counted.word(0);
     Case {
-        code: words::nth_word(list, at, 0),
-        width: words::count_at(list, at + 4),
-        height: words::count_at(list, at + 8),
-        parameters: at + 16,
-        parameter_count: parameter_count,
-        sheet_count: sheet_count,
-        sheets: sheets_at(list, counted + 4, sheet_count),
+        code: words.word(0),
+        width: words.word(1) as usize,
+        height: words.word(2) as usize,
+        parameters,
+        parameter_count,
+        sheet_count,
+        sheets: sheets_in(counted.skip(1), sheet_count),
     }
 }
 
-fn sheets_at(list: &[u8], at: usize, count: usize) -> Sheets
-    requires { at < 549755813888 }
-    ensures { at < result.third.end }
+// The sheets that `words` begin with.
+fn sheets_in<'a>(words: Words<'a>, count: u32) -> Sheets<'a>
+    requires { words.at < 549755813888 }
+    ensures { words.entry.at < result.third.rest.at }
 {
-    let a = sheets::span_at(list, at, 0 < count);
-    let b = sheets::span_at(list, a.end, 1 < count);
-    let c = sheets::span_at(list, b.end, 2 < count);
-    let first = sheets::left_at(a, c.end + 8);
-    let second = sheets::left_at(b, first.end);
-    let third = sheets::left_at(c, second.end);
+    let a = words.sheet(0 < count);
+    let b = a.rest.sheet(1 < count);
+    let c = b.rest.sheet(2 < count);
+    let answer = c.rest;
+    let first = a.left(answer.skip(2));
+    let second = b.left(first.rest);
+    let third = c.left(second.rest);
     Sheets {
-        first: first,
-        second: second,
-        third: third,
-        answer: c.end,
+        first,
+        second,
+        third,
+        answer,
     }
 }
 
-// Parameter i as it stands.
-pub fn parameter(list: &[u8], case: Case, i: usize) -> u32
-    requires { i < 4096 }
-{
-    words::nth_word(list, case.parameters, i)
-}
+impl<'a> Case<'a> {
+    // That there are so many parameters.
+    pub fn parameters_are(self, count: u32) -> Result<(), NotCalled> {
+        if self.parameter_count == count {
+            Ok(())
+        } else {
+            Err(NotCalled::Misread)
+        }
+    }
 
-// Parameter i, the bits of an `f32`.
-pub fn float(list: &[u8], case: Case, i: usize) -> f32
-    requires { i < 4096 }
-{
-    words::nth_float(list, case.parameters, i)
+    // Parameter i, a number that names a case up to `last`.
+    pub fn choice(self, i: usize, last: u32) -> Result<u32, NotCalled>
+        requires { i < 4096 }
+    {
+        let number = self.parameters.word(i);
+        if number <= last {
+            Ok(number)
+        } else {
+            Err(NotCalled::Unnamed)
+        }
+    }
 }

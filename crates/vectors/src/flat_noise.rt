@@ -10,30 +10,22 @@ const NAN_IN_ALPHA: i32 = 14921;
 
 // Prints the bytes of two pixels for each.
 pub fn show(rt: &impl Print) -> io::Result<()> {
-    show_both(rt, b"octaves 0", 0.25, 0, NAN_IN_ALPHA)?;
-    show_both(rt, b"frequencies 0", 0.0, 3, NO_NAN)?;
-    show_both(rt, b"frequencies 0, NaN in alpha", 0.0, 3, NAN_IN_ALPHA)
+    show_both(rt, "octaves 0", 0.25, 0, NAN_IN_ALPHA)?;
+    show_both(rt, "frequencies 0", 0.0, 3, NO_NAN)?;
+    show_both(rt, "frequencies 0, NaN in alpha", 0.0, 3, NAN_IN_ALPHA)
 }
 
 fn show_both(
     rt: &impl Print,
-    name: &[u8],
+    name: &str,
     frequency: f64,
     octaves: u32,
     seed: i32,
 ) -> io::Result<()> {
-    show_kind(
-        rt,
-        b"turbulence: ",
-        name,
-        flat(frequency, octaves, seed, false),
-    )?;
-    show_kind(
-        rt,
-        b"fractal noise: ",
-        name,
-        flat(frequency, octaves, seed, true),
-    )
+    let turbulence = flat(frequency, octaves, seed, false);
+    show_kind(rt, "turbulence", name, turbulence)?;
+    let fractal_noise = flat(frequency, octaves, seed, true);
+    show_kind(rt, "fractal noise", name, fractal_noise)
 }
 
 fn flat(frequency: f64, octaves: u32, seed: i32, fractal_noise: bool) -> Turbulence {
@@ -45,31 +37,17 @@ fn flat(frequency: f64, octaves: u32, seed: i32, fractal_noise: bool) -> Turbule
         base_frequency_x: frequency,
         base_frequency_y: frequency,
         num_octaves: octaves,
-        seed: seed,
-        fractal_noise: fractal_noise,
+        seed,
+        fractal_noise,
     }
 }
 
-fn show_kind(rt: &impl Print, kind: &[u8], name: &[u8], t: Turbulence) -> io::Result<()> {
-    rt.write_all(kind)?;
-    rt.write_all(name)?;
-    rt.write_all(b":")?;
+fn show_kind(rt: &impl Print, kind: &str, name: &str, t: Turbulence) -> io::Result<()> {
+    print!(rt; "{kind}: {name}:")?;
     let mut dest = [77u8; 8];
-    turbulence::apply(t, 2, 1, &mut dest);
-    print_bytes(rt, &dest)?;
-    rt.write_all(b"\n")
-}
-
-fn print_bytes(rt: &impl Print, bytes: &[u8]) -> io::Result<()> {
-    let mut i = 0;
-    while i < bytes.len() {
-        let byte = wide(bytes[i]);
+    let _ = turbulence::apply(t, 2, 1, &mut dest);
+    for byte in dest {
         print!(rt; " {byte}")?;
-        i += 1;
     }
-    Ok(())
-}
-
-fn wide(b: u8) -> u64 {
-    b as u64
+    println!(rt;)
 }

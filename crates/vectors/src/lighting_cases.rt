@@ -1,26 +1,37 @@
 // Lighting: the light (0 distant, 1 a point) with its three floats, the surface's scale, the constant, the colour and, for
 // specular lighting, the exponent; the sheets are src and dest.
-use crate::called::Called;
-use crate::cases;
+use crate::called::{Called, NotCalled};
 use crate::cases::Case;
-use stored::parameters;
+use lighting::{Color, LightSource};
 
-pub fn call_diffuse(list: &[u8], case: Case, src: &[u8], dest: &mut [u8]) -> Called {
-    if case.parameter_count != 9 {
-        return Called::Misread;
-    }
-    if 1 < cases::parameter(list, case, 0) {
-        return Called::Unnamed;
-    }
-    let light = parameters::light_at(list, case.parameters, 0);
-    let scale = cases::float(list, case, 4);
-    let constant = cases::float(list, case, 5);
-    let color = parameters::color_at(list, case.parameters, 6);
-    Called::Answered(lighting::diffuse_lighting(
-        light,
-        scale,
-        constant,
-        color,
+// What both kinds of lighting take.
+#[derive(Clone, Copy)]
+struct Surface {
+    light: LightSource,
+    scale: f32,
+    constant: f32,
+    color: Color,
+}
+
+// The surface of a case with so many parameters.
+fn surface_of(case: Case, count: u32) -> Result<Surface, NotCalled> {
+    case.parameters_are(count)?;
+    case.choice(0, 1)?;
+    Ok(Surface {
+        light: case.parameters.light(0),
+        scale: case.parameters.float(4),
+        constant: case.parameters.float(5),
+        color: case.parameters.color(6),
+    })
+}
+
+pub fn call_diffuse(case: Case, src: &[u8], dest: &mut [u8]) -> Called {
+    let surface = surface_of(case, 9)?;
+    Ok(lighting::diffuse_lighting(
+        surface.light,
+        surface.scale,
+        surface.constant,
+        surface.color,
         case.width,
         case.height,
         src,
@@ -28,24 +39,15 @@ pub fn call_diffuse(list: &[u8], case: Case, src: &[u8], dest: &mut [u8]) -> Cal
     ))
 }
 
-pub fn call_specular(list: &[u8], case: Case, src: &[u8], dest: &mut [u8]) -> Called {
-    if case.parameter_count != 10 {
-        return Called::Misread;
-    }
-    if 1 < cases::parameter(list, case, 0) {
-        return Called::Unnamed;
-    }
-    let light = parameters::light_at(list, case.parameters, 0);
-    let scale = cases::float(list, case, 4);
-    let constant = cases::float(list, case, 5);
-    let color = parameters::color_at(list, case.parameters, 6);
-    let exponent = cases::float(list, case, 9);
-    Called::Answered(lighting::specular_lighting(
-        light,
-        scale,
-        constant,
+pub fn call_specular(case: Case, src: &[u8], dest: &mut [u8]) -> Called {
+    let surface = surface_of(case, 10)?;
+    let exponent = case.parameters.float(9);
+    Ok(lighting::specular_lighting(
+        surface.light,
+        surface.scale,
+        surface.constant,
         exponent,
-        color,
+        surface.color,
         case.width,
         case.height,
         src,

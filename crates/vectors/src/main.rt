@@ -12,7 +12,6 @@ mod flat_noise;
 mod floats_cases;
 mod lighting_cases;
 mod morphology_cases;
-mod reader;
 mod replay;
 mod turbulence_cases;
 

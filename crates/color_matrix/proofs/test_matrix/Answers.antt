@@ -9,4 +9,4 @@ returns-then-numbers-ne20 c = search tests
 
 pub returns : goal.returns
 unfolding twenty_answer
-returns c = search (tests, c.test_range.ensures)
+returns c = search (tests, c.test.ensures)

@@ -1,25 +1,24 @@
 -- The tests come in the definition's order, and what passes them is transferred.
 use mathlib.Core.Path.{refl, sym, ◌∙◌}
-use Rattle.sheet.proofs.Answers.{refusing, first_refusal, next_test, sheets_pixels}
+use Rattle.sheet.proofs.Answers.{first_err, second_err, both_ok, sheets_pixels}
 use Rattle.sheet.proofs.Contracts.{filtered_refused, filtered_done}
 use Rattle.component_transfer.specs.ComponentTransfer.{answer}
 use Rattle.component_transfer.proofs.Passed.{each_passes}
 use Rattle.component_transfer.proofs.apply.Goals as goal
 
-pub returns-in_default : goal.returns-in_default
+pub returns-in_err-test : goal.returns-in_err-test
 unfolding answer
-returns-in_default c = let t = refusing c.test1-sheets.result c.in_default.in_default-own.keys2 in filtered_refused (first_refusal _ c.test1-sheets.ensures t) t refl
+returns-in_err-test c = filtered_refused (first_err _ c.test.ensures c.in_err-test.was) c.from_residual.ensures.1 refl
 
-pub returns-in_default-tested : goal.returns-in_default-tested
+pub returns-in_err-test-2 : goal.returns-in_err-test-2
 unfolding answer
-returns-in_default-tested c =
-    filtered_refused (next_test c.test1-sheets.ensures c.in-Done.is c.test-tested.ensures) (refusing c.test-tested.result c.in_default-tested.in_default-tested-own.keys2) refl
+returns-in_err-test-2 c =
+    filtered_refused (second_err c.test.ensures c.in_ok-test.was c.test-2.ensures c.in_err-test-2.was) c.from_residual-in_err-test-2.ensures.1 refl
 
 pub transfer_all-requires : goal.transfer_all-requires
 transfer_all-requires c =
-    record { reds_value = each_passes c.test-tested.ensures c.in-Done-tested.is; src_len = sheets_pixels c.args.width c.args.height _ _ (sym c.test1-sheets.ensures ∙ c.in-Done.is) }
+    record { passed = each_passes c.test-2.ensures c.in_ok-test-2.was; src_len = sheets_pixels c.args.width c.args.height _ _ (sym c.test.ensures ∙ c.in_ok-test.was) }
 
 pub returns : goal.returns
 unfolding answer
-returns c =
-    filtered_done (next_test c.test1-sheets.ensures c.in-Done.is c.test-tested.ensures) c.in-Done-tested.is c.transfer_all.ensures
+returns c = filtered_done (both_ok c.test.ensures c.in_ok-test.was c.test-2.ensures c.in_ok-test-2.was) c.transfer_all.ensures

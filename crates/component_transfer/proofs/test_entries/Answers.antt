@@ -9,4 +9,4 @@ returns-then-entries-gt-ENTRY_LIMIT c = search tests
 
 pub returns : goal.returns
 unfolding entries_answer
-returns c = search (tests, c.test_range.ensures)
+returns c = search (tests, c.test.ensures)

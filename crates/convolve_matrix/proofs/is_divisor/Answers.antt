@@ -6,7 +6,7 @@ use Rattle.convolve_matrix.proofs.is_divisor.Goals as goal
 
 pub returns-then-within : goal.returns-then-within
 unfolding is_divisor of_bits neg
-returns-then-within c = rw (sym c.within.ensures ∙ c.if-within.true)
+returns-then-within c = rw (sym c.within.ensures ∙ c.if-within.true) c.if-within.true
 
 pub returns-else-within : goal.returns-else-within
 unfolding is_divisor of_bits neg

@@ -29,14 +29,14 @@ pub record Span (mode : EdgeMode) (target w n at from to : ℕ) : Type 0 where
   pub left : (i : ℕ) → i < from → is_read mode target w (i + at) ≡ false
   pub right : (i : ℕ) → to ≤ i → i < n → is_read mode target w (i + at) ≡ false
 
--- the number that the row whose bytes begin at `first` has for channel c of place e
-abbrev pub number_at : EdgeMode → (target w : ℕ) → List ℕ → (first e c : ℕ) → Float
-number_at mode target w s first e c = normalized (get_or s (first + 4 * place mode target w e + c) 0)
+-- the number that a row of bytes has for channel c of place e
+abbrev pub number_at : EdgeMode → (target w : ℕ) → List ℕ → (e c : ℕ) → Float
+number_at mode target w line e c = normalized (get_or line (4 * place mode target w e + c) 0)
 
 -- the places from lo up to hi, counted from the row's place x, hold their numbers, and no other element changed
-pub record Widened (mode : EdgeMode) (target w : ℕ) (s : List ℕ) (first x lo hi : ℕ) (l l' : List Float) : Type 0 where
+pub record Widened (mode : EdgeMode) (target w : ℕ) (line : List ℕ) (x lo hi : ℕ) (l l' : List Float) : Type 0 where
   pub same : length l' ≡ length l
-  pub inside : (e c : ℕ) → lo ≤ e → e < hi → c < 4 → get_or l' (4 * e + c) nan ≡ number_at mode target w s first (x + e) c
+  pub inside : (e c : ℕ) → lo ≤ e → e < hi → c < 4 → get_or l' (4 * e + c) nan ≡ number_at mode target w line (x + e) c
   pub before : (k : ℕ) → k < 4 * lo → get_or l' k nan ≡ get_or l k nan
   pub after : (k : ℕ) → 4 * hi ≤ k → get_or l' k nan ≡ get_or l k nan
 
@@ -49,9 +49,6 @@ pub record Added (f : ℕ → ℕ → Float → Float) (n : ℕ) (l l' : List Fl
 abbrev pub shifted : EdgeMode → (target w x : ℕ) → List Float → (base columns : ℕ) → List Float → (i c ox : ℕ) → Float → Float
 shifted mode target w x kernel base columns l i c ox sum =
     cond (is_read mode target w (x + i + ox)) (sum ⊕ get_or l (4 * (i + ox) + c) nan ⊗ get_or kernel (base + (columns - ox - 1)) nan) sum
-
-abbrev pub shifted_by : ConvolveMatrix → List Float → (w x : ℕ) → List Float → (oy i c ox : ℕ) → Float → Float
-shifted_by m kernel w x l oy i c = shifted m.edge_mode m.target_x w x kernel ((m.rows - oy - 1) * m.columns) m.columns l i c
 
 -- byte j, by the sums, of the strip's row whose bytes begin at `first`
 abbrev pub finished_at : ConvolveMatrix → List Float → List ℕ → (first j : ℕ) → ℕ

@@ -1,6 +1,6 @@
 -- Words of the inner functions' contracts.
 use Rattle.std.specs.Prelude.{ℕ, zero, suc, ◌*◌, ◌≤◌, ◌≡◌, Bool, true, false, cond, List, [], ◌⊎◌, length, eqb, Float}
-use Rattle.sheet.specs.declared.Answer.TheVariants.{Done}
+use Rattle.sheet.specs.Answer.{Done}
 use Rattle.sheet.specs.Size.{sheets_answer}
 use Rattle.recipe.specs.declared.Inputs.{Inputs}
 use Rattle.recipe.specs.declared.Inputs.TheVariants.{None, One, Two}
@@ -8,7 +8,12 @@ use Rattle.recipe.specs.declared.Step.{Step}
 use Rattle.recipe.specs.declared.Work.{Work}
 use Rattle.recipe.specs.Contents.{inputs_of}
 use Rattle.recipe.specs.Tests.{work_answer}
-use Rattle.filter.specs.Slots.{Slots, slot_of, made}
+use Rattle.filter.specs.declared.step.Sheets.{Sheets}
+use Rattle.filter.specs.Slots.{Slots, slots, slot_of, made}
+
+-- the slots' sheets
+abbrev pub slots_in : Sheets → Slots
+slots_in s = slots s.zero.now s.one.now s.two.now s.three.now
 
 -- the sides pass test 1, and each sheet has their length
 pub record Fits (w h : ℕ) (x : Slots) (scratch : List ℕ) : Type 0 where

@@ -1,12 +1,11 @@
 -- Words of the private functions' contracts: what each step keeps of the value that it is handed. No public contract cites them.
-use Rattle.std.specs.Prelude.{◌≡◌, ℕ, ◌*◌, ◌^◌, ◌<◌, min, Bool, true, false, cond, T, ℤ, pos, neg_ℤ, nat_le, Float}
-use Rattle.std.specs.Float.{nan, inf, fin, binary32, binary64}
-use Rattle.std.specs.Float.Ieee.{up, down, mul, to_unsigned}
+use Rattle.std.specs.Prelude.{◌≡◌, ℕ, ◌*◌, ◌^◌, ◌<◌, min, max, Bool, true, false, cond, T, ℤ, pos, neg_ℤ, nat_le, Float}
+use Rattle.std.specs.Float.{nan, inf, fin, binary64}
+use Rattle.std.specs.Float.Ieee.{up, down, lt}
 use Rattle.std.specs.Float.Ieee.Positive.{num, den}
 use Rattle.floats.specs.Round.{away, round_to}
 use Rattle.floats.specs.Unit.{in_units}
-use Rattle.floats.specs.Channel.{from_normalized}
-use Rattle.floats.specs.Constants.{c255}
+use Rattle.floats.specs.Constants.{c0}
 
 -- finite, and not negative (nor -0)
 abbrev pub plain : Float → Bool
@@ -22,15 +21,9 @@ up_to n (inf s) = false
 up_to n (fin true m e) = false
 up_to n (fin false m e) = nat_le (m * up e) (n * down e)
 
--- r is in a byte's range, and is cut to the byte that x is cut to
-pub record Clamped (x r : Float) : Type 0 where
-  pub inside : T (up_to 255 r)
-  pub same : to_unsigned 8 r ≡ to_unsigned 8 x
-
--- r is from 0 to 1, and 255 times r is cut to the byte of c
-pub record ClampedUnit (c r : Float) : Type 0 where
-  pub inside : T (up_to 1 r)
-  pub same : to_unsigned 8 (mul binary32 r c255) ≡ from_normalized c
+-- x brought to 0 to top; a NaN gives 0
+abbrev pub clamped : Float → Float → Float
+clamped x top = cond (lt c0 x) (cond (lt x top) x top) c0
 
 -- the `i32` of the size n, negative where s is true, to the end of the range where it is out of it
 unfoldable pub signed_by : Bool → ℕ → ℤ
@@ -48,6 +41,13 @@ pub record FewDigits (r : Float) : Type 0 where
   pub j : ℕ
   pub few : q < 2 ^ 48
   pub at : in_units binary64 r ≡ q * 2 ^ j
+
+-- a and b in falling order
+pub record Falling (a b hi lo : Float) : Type 0 where
+  pub hi_few : FewDigits hi
+  pub lo_few : FewDigits lo
+  pub hi_is : in_units binary64 hi ≡ max (in_units binary64 a) (in_units binary64 b)
+  pub lo_is : in_units binary64 lo ≡ min (in_units binary64 a) (in_units binary64 b)
 
 -- r is n units of 2 ^ -298, exactly, and has few digits
 pub record ExactSquare (n : ℕ) (r : Float) : Type 0 where

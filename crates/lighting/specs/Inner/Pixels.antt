@@ -18,10 +18,6 @@ abbrev pub Lit : Reflection → Color → Float → ℕ → Type 0
 Lit reflection color factor p =
     Channels p (lit_channel reflection color factor 0) (lit_channel reflection color factor 1) (lit_channel reflection color factor 2) (lit_channel reflection color factor 3)
 
--- a colour of three channels
-abbrev pub colour : (red green blue : ℕ) → Color
-colour red green blue = record { red = red; green = green; blue = blue }
-
 -- `along`, where the normal vector's length is given
 abbrev pub along_by : (scale : Float) → Normal → (length : Float) → Vector3 → Float
 along_by scale n length v = cond (flat n) v.z (dot (normal_vector scale n) v ⊘ length)

@@ -1,16 +1,11 @@
--- What holds of all numbers is what holds of those not passed yet.
-use Prim.Native.Nat.{◌-◌}
-use Rattle.pool.proofs.Each.{test_start, test_stops, test_next, test_done}
+-- The test of all is the definition's.
+use borrow.Author.Rules.{rules}
+use mathlib.Core.Path.{◌∙◌}
+use Rattle.pool.specs.Pool.{in_range}
+use Rattle.std.proofs.lemmas.Iterator.{YieldsList-from_slice}
+use Rattle.std.proofs.lemmas.Iterator.Search.{all_from_yields_List}
+use Rattle.pool.proofs.Each.{all_list}
 use Rattle.pool.proofs.all_in_range.Goals as goal
 
-pub loop-i-init : goal.loop-i-init
-loop-i-init c = test_start _ _
-
-pub returns-then-not-is_number : goal.returns-then-not-is_number
-returns-then-not-is_number c = test_stops c.loop-i.invariant _ c.loop-i-test.true c.is_number.ensures c.if-not-is_number.true
-
-pub loop-i-preserved : goal.loop-i-preserved
-loop-i-preserved c = test_next c.loop-i.invariant _ c.loop-i-test.true c.is_number.ensures c.if-not-is_number.false
-
 pub returns : goal.returns
-returns c = test_done c.loop-i.invariant c.loop-i-test.false
+returns c = all_from_yields_List in_range _ _ _ c.all.ensures.ran (YieldsList-from_slice c.args.numbers.now cc) (λ x b q k. search rules) ∙ all_list in_range c.args.numbers.now

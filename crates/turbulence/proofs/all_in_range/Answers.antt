@@ -1,23 +1,18 @@
--- Each return rewrites the definition's chain with the tests that led there.
-use mathlib.Core.Path.{refl}
-use Rattle.sheet.proofs.Answers.{tests, denied, allowed}
+-- The definition's chain, by the tests that led there.
+use native.Mathlib.Omega.{arith}
+use Rattle.std.proofs.lemmas.Grind.{common_steps}
 use Rattle.turbulence.specs.Turbulence.{all_in_range}
+use Rattle.sheet.proofs.Answers.{tests}
+use Rattle.turbulence.proofs.all_in_range.Goals.{then-offsets, else-offsets, then-scales, else-scales}
 use Rattle.turbulence.proofs.all_in_range.Goals as goal
 
-pub returns-then-not-both_within : goal.returns-then-not-both_within
+pub returns-then-frequencies : goal.returns-then-frequencies
 unfolding all_in_range
-returns-then-not-both_within c = search (tests, denied c.both_within.ensures c.if-not-both_within.true)
+returns-then-frequencies c = let h = c.if-frequencies.true in search (tests, c.both_within-offsets.ensures, c.both_within-scales.ensures, c.both_within-frequencies.ensures)
 
-pub returns-then-not-both_within-2 : goal.returns-then-not-both_within-2
+pub returns-else-frequencies : goal.returns-else-frequencies
 unfolding all_in_range
-returns-then-not-both_within-2 c = search (tests, allowed c.both_within.ensures c.if-not-both_within.false, denied c.both_within-2.ensures c.if-not-both_within-2.true)
-
-pub returns-then-not-both_within-3 : goal.returns-then-not-both_within-3
-unfolding all_in_range
-returns-then-not-both_within-3 c =
-    search (tests, allowed c.both_within.ensures c.if-not-both_within.false, allowed c.both_within-2.ensures c.if-not-both_within-2.false, denied c.both_within-3.ensures c.if-not-both_within-3.true)
-
-pub returns : goal.returns
-unfolding all_in_range
-returns c =
-    rw (allowed c.both_within.ensures c.if-not-both_within.false, allowed c.both_within-2.ensures c.if-not-both_within-2.false, allowed c.both_within-3.ensures c.if-not-both_within-3.false) refl
+returns-else-frequencies c =
+    let h = c.if-frequencies.either in
+    rw (← c.both_within-offsets.ensures, ← c.both_within-scales.ensures, ← c.both_within-frequencies.ensures)
+    (elim c.if-scales.branch [ then-scales w ↦ grind (arith, common_steps) | else-scales w ↦ elim c.if-offsets.branch [ then-offsets v ↦ grind (arith, common_steps) | else-offsets v ↦ grind (arith, common_steps) ] ])

@@ -1,31 +1,11 @@
--- Each turn stores one pixel, whose bytes are the definition's.
+-- Each pixel becomes the definition's.
 use borrow.Author.Rules.{rules}
-use mathlib.Core.Path.{refl}
-use Rattle.sheet.proofs.Filling.{paint_start, paint_room, paint_read, paint_pixel, paint_done}
+use native.Mathlib.Omega.{arith}
+use Rattle.sheet.proofs.Mapping.{painted}
 use Rattle.color_matrix.specs.ColorMatrix.{luminance_to_alpha}
 use Rattle.color_matrix.proofs.Bytes.{luminance_pixel}
 use Rattle.color_matrix.proofs.loops.luminance.Goals as goal
 
-pub loop-k-init : goal.loop-k-init
-loop-k-init c = paint_start _ _ c.requires
-
-pub straight_at-p-requires : goal.straight_at-p-requires
-straight_at-p-requires c = paint_room c.loop-k.invariant c.loop-k-test.true
-
-pub put_straight-requires : goal.put_straight-requires
-put_straight-requires c =
-    paint_room c.loop-k.invariant c.loop-k-test.true
-
-pub overflow_add-k : goal.overflow_add-k
-overflow_add-k c =
-    let z = paint_room c.loop-k.invariant c.loop-k-test.true in
-    search rules
-
-pub loop-k-preserved : goal.loop-k-preserved
-loop-k-preserved c =
-    paint_pixel c.loop-k.invariant c.loop-k-test.true c.put_straight.ensures
-    (luminance_pixel c.args.src.now c.loop-k.k (paint_read c.loop-k.invariant c.straight_at-p.ensures) c.loop-k.invariant.aligned c.luminance_pixel.ensures)
-
 pub returns : goal.returns
 unfolding luminance_to_alpha
-returns c = paint_done c.loop-k.invariant c.loop-k-test.false refl
+returns c = painted _ c.requires c.map_pixels.ensures (λ i p q at r x l. luminance_pixel c.args.src.now _ at (omega arith) (search rules) x l)

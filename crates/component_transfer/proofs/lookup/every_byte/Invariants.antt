@@ -1,5 +1,4 @@
 -- Each turn stores one more byte of the function.
-use Prim.Native.Nat.{◌-◌}
 use mathlib.Core.Path.{◌≡◌}
 use lib.ListN.{length}
 use Rattle.sheet.proofs.Filling.{Filling}
@@ -8,6 +7,3 @@ use Rattle.component_transfer.proofs.lookup.every_byte.Given as goal
 
 abbrev pub invariant-loop-i : goal.invariant-loop-i
 invariant-loop-i l = Filling (transfer l.f l.pool) l.initial.bytes l.bytes l.i × (length l.initial.bytes ≡ 256)
-
-abbrev pub decreases-loop-i : goal.decreases-loop-i
-decreases-loop-i l = 256 - l.i

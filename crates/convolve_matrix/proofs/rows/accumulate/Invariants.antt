@@ -1,13 +1,11 @@
 -- The sums passed have grown, and the others are as they were.
-use Prim.Native.Nat.{◌+◌, ◌-◌, ◌≤◌}
-use lib.ListN.{get_or}
-use lib.Ieee.{nan}
+use Rattle.std.proofs.Common.{◌≡◌, ◌<◌, ◌≤◌, get_or, ℕ}
+use Rattle.std.specs.Float.{nan}
 use Rattle.floats.specs.Operators.{◌⊕◌, ◌⊗◌}
-use Rattle.sheet.specs.Inner.Strips.{Changed}
 use Rattle.convolve_matrix.proofs.rows.accumulate.Given as goal
 
 abbrev pub invariant-loop-i : goal.invariant-loop-i
-invariant-loop-i l = (l.i ≤ l.n) × Changed nan (λ j. get_or l.initial.sums (l.at + j) nan ⊕ get_or l.row (l.other + j) nan ⊗ l.k) l.at l.i l.initial.sums l.sums
-
-abbrev pub decreases-loop-i : goal.decreases-loop-i
-decreases-loop-i l = l.n - l.i
+invariant-loop-i l = record {
+  grown : (k : ℕ) → k < l.i → get_or l.sums k nan ≡ get_or l.initial.sums k nan ⊕ get_or l.numbers k nan ⊗ l.k;
+  rest : (k : ℕ) → l.i ≤ k → get_or l.sums k nan ≡ get_or l.initial.sums k nan;
+}

@@ -1,13 +1,8 @@
--- The bytes passed are stored as numbers.
-use Prim.Native.Nat.{◌+◌, ◌-◌, ◌≤◌}
-use lib.ListN.{get_or}
-use lib.Ieee.{nan}
+-- The numbers passed are made.
+use Rattle.std.proofs.Common.{◌≡◌, ◌<◌, get_or, ℕ}
+use Rattle.std.specs.Float.{nan}
 use Rattle.floats.specs.Channel.{normalized}
-use Rattle.sheet.specs.Inner.Strips.{Changed}
 use Rattle.convolve_matrix.proofs.rows.to_numbers.Given as goal
 
 abbrev pub invariant-loop-i : goal.invariant-loop-i
-invariant-loop-i l = (l.i ≤ l.n) × Changed nan (λ j. normalized (get_or l.src (l.other + j) 0)) l.at l.i l.initial.row l.row
-
-abbrev pub decreases-loop-i : goal.decreases-loop-i
-decreases-loop-i l = l.n - l.i
+invariant-loop-i l = (k : ℕ) → k < l.i → get_or l.numbers k nan ≡ normalized (get_or l.bytes k 0)

@@ -1,15 +1,15 @@
--- The places before the row's own, those, and the places after them, side by side.
-use Prim.Native.Nat.{zero-le}
-use Rattle.convolve_matrix.proofs.Widening.{own_places, own_bytes, own_numbers, widened_join, widened_own}
+-- The places before the line's own, those, and the places after them, side by side.
+use Prim.Native.Nat.{◌+◌, ◌-◌, ◌*◌, zero-le}
+use native.Mathlib.Omega.{arith}
+use Rattle.convolve_matrix.proofs.Widening.{own_places, numbers_stored, widened_join, widened_own}
 use Rattle.convolve_matrix.proofs.rows.widen.Goals as goal
-
-pub to_numbers-requires : goal.to_numbers-requires
-to_numbers-requires c =
-    let o = own_places c.args.target c.args.columns c.args.w c.args.x c.args.n c.requires.target_lt_columns.0 c.requires.w_nonzero.2 c.less_within-lo.ensures c.less_within-hi.ensures in
-    record { n_in_bounds = own_bytes o _ c.requires.w_nonzero.1; n_in_bounds_2 = own_numbers o (rw c.widen_places.ensures.same c.requires.target_lt_columns.1) }
 
 pub returns : goal.returns
 returns c =
-    let o = own_places c.args.target c.args.columns c.args.w c.args.x c.args.n c.requires.target_lt_columns.0 c.requires.w_nonzero.2 c.less_within-lo.ensures c.less_within-hi.ensures in
-    let own = widened_own _ _ _ _ _ _ o c.to_numbers.ensures in
-    widened_join _ _ _ _ _ _ zero-le o.within (widened_join _ _ _ _ _ _ zero-le o.ordered c.widen_places.ensures own) c.widen_places-2.ensures
+    let lo = c.own-own.result.start in
+    let hi = c.own-own.result.end in
+    let o = own_places c.args.side.target c.args.side.places c.args.x c.args.end c.requires.places.0 c.requires.line.1 c.own-own.ensures.start c.own-own.ensures.end in
+    let same = c.widen_places.ensures.same in
+    let stored = numbers_stored c.args.line.now (4 * (c.args.x + lo - c.args.side.target)) (4 * lo) (4 * (hi - lo)) _ _ c.widen_places.new.row c.to_numbers.new.numbers (omega arith) (omega arith) (omega arith) (omega arith) (omega arith) c.to_numbers.ensures in
+    let own = widened_own _ _ _ _ _ o stored in
+    widened_join _ _ _ _ _ zero-le o.within (widened_join _ _ _ _ _ zero-le o.ordered c.widen_places.ensures own) c.widen_places-2.ensures

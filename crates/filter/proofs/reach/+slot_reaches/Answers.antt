@@ -10,16 +10,16 @@ returns-then-n-eq0 t c = rw c.if-n-eq0.true
 
 pub returns-then-slot_reaches : goal.returns-then-slot_reaches
 returns-then-slot_reaches t c =
-    let back = reaches_back _ _ _ c.if-n-eq0.false c.origins-inputs.ensures c.in-Two.is in
-    back (rw (sym c.slot_reaches-in-Two.ensures ∙ c.if-slot_reaches.true))
+    let back = reaches_back _ _ _ c.if-n-eq0.false c.origins.ensures c.in-Two.is in
+    back (rw (sym c.slot_reaches-in-Two.ensures ∙ c.if-slot_reaches.true) c.if-slot_reaches.true)
 
 pub returns-in-None : goal.returns-in-None
-returns-in-None t c = reaches_back _ _ _ c.if-n-eq0.false c.origins-inputs.ensures c.in-None.is refl
+returns-in-None t c = reaches_back _ _ _ c.if-n-eq0.false c.origins.ensures c.in-None.is refl
 
 pub returns-in-One : goal.returns-in-One
-returns-in-One t c = reaches_back _ _ _ c.if-n-eq0.false c.origins-inputs.ensures c.in-One.is c.slot_reaches.ensures
+returns-in-One t c = reaches_back _ _ _ c.if-n-eq0.false c.origins.ensures c.in-One.is c.slot_reaches.ensures
 
 pub returns-else-slot_reaches : goal.returns-else-slot_reaches
 returns-else-slot_reaches t c =
-    let back = reaches_back _ _ _ c.if-n-eq0.false c.origins-inputs.ensures c.in-Two.is in
-    back (rw (sym c.slot_reaches-in-Two.ensures ∙ c.if-slot_reaches.false) c.slot_reaches-in-Two-2.ensures)
+    let back = reaches_back _ _ _ c.if-n-eq0.false c.origins.ensures c.in-Two.is in
+    back (rw (sym c.slot_reaches-in-Two.ensures ∙ c.if-slot_reaches.false) c.slot_reaches-else-slot_reaches.ensures)

@@ -1,7 +1,7 @@
 -- `narrowed` meets its contract: below 2 ^ -126 by a sum, from there on by its digits. Assumes nothing.
 use Rattle.std.proofs.Common.{◌≡◌, ℕ, ◌-◌, ◌<◌, ◌≤◌, not, T, refl, subst, le_trans, le_refl, lt_of_lt_of_le, lt_of_le_of_lt, lit<, lit≤}
 use Rattle.floats.proofs.NarrowedSize.{small_value, no_nan, small_some, small_few, small_pattern, big_pattern, big_small, top_pattern, lift}
-use Rattle.floats.proofs.RootPatterns.{pattern_ok}
+use Rattle.floats.proofs.Patterns.{pattern_ok}
 use lib.Ieee.{Float, binary32, binary64, add, is_nan, of_bits, to_bits}
 use Rattle.floats.specs.Narrow.{narrow_to}
 use Rattle.floats.proofs.narrow.narrowed.Goals as goal

@@ -2,12 +2,9 @@
 use Rattle.std.proofs.Common.{ℕ, ◌+◌, ◌*◌, ◌/◌, ◌<◌, ◌≤◌, arith}
 use lib.Ieee.{Float, binary64, of_bits, to_bits}
 use Rattle.floats.proofs.Tests.{T_true}
-use Rattle.floats.proofs.RootEnds.{equals_itself}
+use Rattle.floats.proofs.Ordered.{equals_itself}
 use Rattle.floats.proofs.NarrowedSign.{no_nan_pattern, one_sign, with_sign, signed_ok, nan_same}
 use Rattle.floats.proofs.narrow.to_f32.Goals as goal
-
-pub float_to_bits-b : goal.float_to_bits-b
-float_to_bits-b c = equals_itself c.args.x (T_true c.if-x.true)
 
 pub narrowed-size-requires : goal.narrowed-size-requires
 narrowed-size-requires c = no_nan_pattern c.args.x (T_true c.well_formed.0.1) (equals_itself c.args.x (T_true c.if-x.true))

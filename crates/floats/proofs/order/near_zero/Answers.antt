@@ -1,17 +1,14 @@
--- `near_zero` meets its contract, by whether x is 0 or more. Assumes nothing.
+-- From 0 to the value with bits 4.
+use Rattle.std.proofs.Common.{◌∙◌}
 use lib.Ieee.{of_bits, nan_bits}
-use Rattle.floats.proofs.Tests.{T_true, T_false}
-use Rattle.floats.proofs.NearZero.{from_zero, not_from_zero}
+use Rattle.floats.proofs.Tests.{T_true}
+use Rattle.floats.proofs.NearZero.{near_zero_is}
 use Rattle.floats.proofs.order.near_zero.Goals as goal
 
-pub float_from_bits-result : goal.float_from_bits-result
+pub float_from_bits-within : goal.float_from_bits-within
 unfolding nan_bits
-float_from_bits-result c = tt
+float_from_bits-within c = tt
 
-pub returns-then-x : goal.returns-then-x
+pub returns : goal.returns
 unfolding of_bits
-returns-then-x c = from_zero c.args.x (T_true c.well_formed.0.1) (T_true c.if-x.true)
-
-pub returns-else-x : goal.returns-else-x
-unfolding of_bits
-returns-else-x c = not_from_zero c.args.x (T_false c.if-x.false)
+returns c = c.within.ensures ∙ near_zero_is c.args.x (T_true c.well_formed.0.1)

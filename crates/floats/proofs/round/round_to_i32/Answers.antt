@@ -36,9 +36,6 @@ module _ (r w : Float) (inside : T (up_to 2147483648 r)) (is : w ≡ of_int bina
 signed : (x r : Float) (s : Bool) → Magnitude (lt x nought) x r → lt x nought ≡ s → signed_by s (size r) ≡ round_to 31 x
 signed x r s m e = subst (λ (b : Bool). signed_by b (size r) ≡ round_to 31 x) e m.same
 
-pub whole_away-r-requires : goal.whole_away-r-requires
-whole_away-r-requires c = c.magnitude.ensures.inside
-
 pub float_to_int-result : goal.float_to_int-result
 unfolding of_bits
 float_to_int-result c = (minus c.magnitude.result c.whole_away-r.result c.magnitude.ensures.inside c.whole_away-r.ensures).0

@@ -57,22 +57,16 @@ module _ (hi : Float) (held : T (fits binary64 hi)) (few : FewDigits hi) (u : le
     of_bottom : Left hi held few 1023 (sub binary64 bottom hi)
     of_bottom = subst (λ (k : Float). Left hi held few 1023 (sub binary64 k hi)) (sym lower_is) (lower_less hi held few fair short)
 
-pub sum_at_most-requires : goal.sum_at_most-requires
-sum_at_most-requires c =
-    let left = of_top c.args.hi (T_true c.well_formed.0.1) c.requires.hi_few c.if-hi.true c.if-hi-2.false in
-    record { mid_plain = c.requires.mid_plain; lo_plain = c.requires.lo_plain; most_plain = left.flat; falling = c.requires.falling.0 }
+pub sum_at_most-requires-clause-most_plain : goal.sum_at_most-requires-clause-most_plain
+sum_at_most-requires-clause-most_plain c = (of_top c.args.hi (T_true c.well_formed.0.1) c.requires.hi_few c.if-hi.true c.if-hi-2.false).flat
 
-pub sum_at_least-requires : goal.sum_at_least-requires
-sum_at_least-requires c =
-    let held = T_true c.well_formed.0.1 in
-    let left = of_bottom c.args.hi held c.requires.hi_few c.if-hi.true c.if-hi-2.false c.if-hi-3.true in
-    let most = in_top c.args.hi held c.requires.hi_few c.if-hi.true c.if-hi-2.false in
-    record {
-      mid_plain = c.requires.mid_plain;
-      lo_plain = c.requires.lo_plain;
-      least_plain = left.flat;
-      falling = (c.requires.falling.0, le_trans c.requires.falling.1 (le_trans most (mul-le-mul_right (2 ^ 1064) (lit≤ {m = 1025} {n = 2048} tt))));
-    }
+pub sum_at_least-requires-clause-least_plain : goal.sum_at_least-requires-clause-least_plain
+sum_at_least-requires-clause-least_plain c = (of_bottom c.args.hi (T_true c.well_formed.0.1) c.requires.hi_few c.if-hi.true c.if-hi-2.false c.if-hi-3.true).flat
+
+pub sum_at_least-requires-clause-falling : goal.sum_at_least-requires-clause-falling
+sum_at_least-requires-clause-falling c =
+    let most = in_top c.args.hi (T_true c.well_formed.0.1) c.requires.hi_few c.if-hi.true c.if-hi-2.false in
+    (c.requires.falling.0, le_trans c.requires.falling.1 (le_trans most (mul-le-mul_right (2 ^ 1064) (lit≤ {m = 1025} {n = 2048} tt))))
 
 pub returns-then-hi-2 : goal.returns-then-hi-2
 returns-then-hi-2 c =

@@ -3,7 +3,6 @@ use Rattle.std.proofs.Common.{◌≡◌, ◌+◌, ◌^◌, Bool, true, false, �
 use lib.Ieee.{Float}
 use lib.Ieee.Scale.{finite}
 use Rattle.floats.specs.Unit.{squared, about_one, unit_triple}
-use Rattle.floats.proofs.Tests.{T_true}
 use Rattle.floats.proofs.unit.unit_triple.Goals as goal
 
 abbrev Test : Float → Float → Float → Bool
@@ -28,10 +27,6 @@ pub returns-then-not-is_finite-3 : goal.returns-then-not-is_finite-3
 returns-then-not-is_finite-3 c =
     let a = c.args in
     sym (answer a.x a.y a.z true true false (sym c.is_finite.ensures ∙ c.if-not-is_finite.false) (sym c.is_finite-2.ensures ∙ c.if-not-is_finite-2.false) (sym c.is_finite-3.ensures ∙ c.if-not-is_finite-3.true))
-
-pub finite_triple-requires : goal.finite_triple-requires
-finite_triple-requires c =
-    record { x_finite = T_true (sym c.is_finite.ensures ∙ c.if-not-is_finite.false); y_finite = T_true (sym c.is_finite-2.ensures ∙ c.if-not-is_finite-2.false); z_finite = T_true (sym c.is_finite-3.ensures ∙ c.if-not-is_finite-3.false) }
 
 pub returns : goal.returns
 returns c =

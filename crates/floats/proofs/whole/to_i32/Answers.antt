@@ -1,11 +1,15 @@
 -- `to_i32` meets its contract, by where x lies. Assumes nothing.
-use Rattle.std.proofs.Common.{◌≡◌, sym, ◌∙◌, subst, lit<, lit≤, w32, w64, SFits, to_z, of_z}
-use lib.Ieee.{of_bits, neg, to_signed}
+use Rattle.std.proofs.Common.{◌≡◌, ℤ, sym, ◌∙◌, subst, lit<, lit≤, w32, w64, SFits, to_z, of_z}
+use lib.Ieee.{Float, of_bits, neg, to_signed}
 use lib.Ieee.Casts.{to_signed_in}
 use mir.ValLaws.{to_z-of_z}
 use Rattle.floats.proofs.Tests.{T_true, T_false}
 use Rattle.floats.proofs.TowardZero.{inside, above, under, neither, wider_lowest, wider_past}
 use Rattle.floats.proofs.whole.to_i32.Goals as goal
+
+-- what an `i64` keeps of x is what an `i32` would
+cut_is : (x : Float) (r : ℤ) → r ≡ to_signed 63 x → to_signed 63 x ≡ to_signed 31 x → to_z w64 (of_z w64 r) ≡ to_signed 31 x
+cut_is x r told same = to_z-of_z w64 _ (subst (SFits w64) (sym told) (record { sfits = to_signed_in 63 x })) ∙ told ∙ same
 
 pub truncating_f64_to_i64-requires : goal.truncating_f64_to_i64-requires
 unfolding of_bits neg
@@ -16,17 +20,13 @@ truncating_f64_to_i64-requires c =
 pub overflow_cast-result : goal.overflow_cast-result
 unfolding of_bits neg
 overflow_cast-result c =
-    let cut : to_z w64 (of_z w64 c.truncating_f64_to_i64.result) ≡ to_signed 31 c.args.x = let x = c.args.x in
-    let told = c.truncating_f64_to_i64.ensures in
-    to_z-of_z w64 _ (subst (SFits w64) (sym told) (record { sfits = to_signed_in 63 x })) ∙ told ∙ inside 31 63 x (lit≤ tt) (T_true c.if-x.true) (T_true c.if-x-2.true) in
+    let cut = cut_is c.args.x _ c.truncating_f64_to_i64.ensures (inside 31 63 c.args.x (lit≤ tt) (T_true c.if-x.true) (T_true c.if-x-2.true)) in
     subst (SFits w32) (sym cut) (record { sfits = to_signed_in 31 c.args.x })
 
 pub returns-then-x-2 : goal.returns-then-x-2
 unfolding of_bits neg
 returns-then-x-2 c =
-    let cut : to_z w64 (of_z w64 c.truncating_f64_to_i64.result) ≡ to_signed 31 c.args.x = let x = c.args.x in
-    let told = c.truncating_f64_to_i64.ensures in
-    to_z-of_z w64 _ (subst (SFits w64) (sym told) (record { sfits = to_signed_in 63 x })) ∙ told ∙ inside 31 63 x (lit≤ tt) (T_true c.if-x.true) (T_true c.if-x-2.true) in
+    let cut = cut_is c.args.x _ c.truncating_f64_to_i64.ensures (inside 31 63 c.args.x (lit≤ tt) (T_true c.if-x.true) (T_true c.if-x-2.true)) in
     to_z-of_z w32 _ (subst (SFits w32) (sym cut) (record { sfits = to_signed_in 31 c.args.x })) ∙ cut
 
 pub returns-else-x-2 : goal.returns-else-x-2

@@ -1,5 +1,5 @@
 -- `whole_part` meets its contract, by where x lies. Assumes nothing.
-use Rattle.std.proofs.Common.{sym, ap, ◌∙◌, subst, lit≤, w32, w64, SFits}
+use Rattle.std.proofs.Common.{sym, ap, ◌∙◌, subst, lit≤, w32, SFits}
 use lib.Ieee.{binary64, of_int, of_bits, neg}
 use lib.Ieee.Casts.{to_signed_in}
 use mir.ValLaws.{to_z-of_z}
@@ -18,12 +18,6 @@ returns-then-x-2 c =
 pub truncating_f64_to_i64-requires : goal.truncating_f64_to_i64-requires
 unfolding of_bits neg
 truncating_f64_to_i64-requires c = record { lower_bound = T_true c.if-x-3.true; upper_bound = T_true c.if-x-4.true }
-
-pub returns-then-x-4 : goal.returns-then-x-4
-returns-then-x-4 c =
-    let told = c.truncating_f64_to_i64.ensures in
-    let x = c.args.x in
-    c.nearest_i64_to_f64.ensures ∙ ap (of_int binary64) (to_z-of_z w64 _ (subst (SFits w64) (sym told) (record { sfits = to_signed_in 63 x })) ∙ told)
 
 pub returns-else-x-4 : goal.returns-else-x-4
 unfolding of_bits neg of_int

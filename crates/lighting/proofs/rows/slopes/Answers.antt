@@ -1,15 +1,17 @@
--- The roots of the products are the lengths.
+-- The lengths are those of the normal vectors.
+use borrow.Author.Rules.{rules}
 use mathlib.Core.Path.{ap, ◌∙◌}
 use Rattle.surface.specs.declared.Normal.{Normal}
+use Rattle.surface.specs.Inner.Rows.{normal_in}
 use Rattle.lighting.specs.Vectors as Vectors
 use Rattle.lighting.specs.Light.{normal_vector}
-use Rattle.lighting.proofs.Passes.{filled_length}
+use Rattle.lighting.proofs.Passes.{measured_as}
 use Rattle.lighting.proofs.rows.slopes.Goals as goal
 
 pub returns : goal.returns
 returns c =
     record {
-      columns = c.columns.ensures.columns;
-      normals = c.columns.ensures.by_index;
-      lengths_are = λ i q. filled_length _ c.args.strip.count c.requires.count_in_bounds.3 c.squares.ensures c.roots.ensures i q ∙ ap (λ (n : Normal). Vectors.length (normal_vector c.args.scale n)) (c.columns.ensures.by_index i q);
+      normals = c.fill.ensures;
+      same = search rules;
+      each = λ i h. measured_as (λ j. normal_vector c.args.lighting.scale (normal_in c.args.row.now c.fill.new.self.sums c.fill.new.self.above c.fill.new.self.below j)) c.measure.ensures (λ j v p. search rules) i (search rules) ∙ ap (λ (n : Normal). Vectors.length (normal_vector c.args.lighting.scale n)) (c.fill.ensures i h);
     }

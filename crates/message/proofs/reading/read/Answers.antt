@@ -1,19 +1,27 @@
 -- A message that is tested whole is read once more, into the pool.
-use mathlib.Core.Path.{refl, sym, ◌∙◌}
-use Rattle.number.proofs.Words.{here, nothing}
-use Rattle.message.specs.Inner.Reading.{steps_answer}
-use Rattle.message.proofs.Whole.{message_begins, no_count, read_malformed, read_refused, read_done}
-use borrow.Enum.Refused.{opened}
+use mathlib.Core.Path.{◌≡◌, sym, ap, ◌∙◌}
+use native.Mathlib.Omega.{arith}
+use Rattle.std.proofs.Common.{rules}
+use Rattle.message.specs.Answers.{done, reading_answer}
+use Rattle.message.proofs.Results.{passed_on}
+use Rattle.message.proofs.Whole.{not_bad, count_wrong, all_wrong, read_refused, read_all}
 use Rattle.message.proofs.reading.read.Goals as goal
 
-pub returns-in_default : goal.returns-in_default
-returns-in_default c = read_malformed _ _ c.refused.result 0 (no_count _ (nothing _ _ c.first.ensures c.in_default.in_default-own.keys2)) c.refused.ensures.0 c.refused.ensures.1 refl
+pub returns-in_err-test : goal.returns-in_err-test
+returns-in_err-test c =
+    read_refused _ _ (rw (← c.room_of.ensures) (sym c.test.ensures ∙ c.in_err-test.was)) (passed_on _ _ c.from_residual.ensures.1)
 
-pub returns-in_default-tested : goal.returns-in_default-tested
-unfolding steps_answer
-returns-in_default-tested c =
-    read_refused _ _ c.refused-in_default-tested.result c.test-tested.result (rw (message_begins _ _ _ (here _ _ c.first.ensures c.in-Value.is), ← c.room_of.ensures) (sym c.test-tested.ensures)) (opened c.in_default-tested.in_default-tested-own.keys2) c.refused-in_default-tested.ensures.0 c.refused-in_default-tested.ensures.1 refl
+pub returns-in_err-count : goal.returns-in_err-count
+returns-in_err-count c = absurd (not_bad _ _ (sym c.test.ensures ∙ c.in_ok-test.was) (count_wrong c.args.message.now c.new-reader.result c.number.new.self (ap (λ x. x.now) c.new-reader.ensures.0) c.new-reader.ensures.1 c.number.ensures.same c.number.ensures.number c.in_err-count.was))
+
+pub steps-requires : goal.steps-requires
+steps-requires c = let z = c.new-pool.ensures.all.1 in omega arith
+
+pub returns-in_err-steps : goal.returns-in_err-steps
+returns-in_err-steps c = absurd (not_bad _ _ (sym c.test.ensures ∙ c.in_ok-test.was) (all_wrong c.args.message.now c.new-reader.result c.number.new.self (ap (λ x. x.now) c.new-reader.ensures.0) c.new-reader.ensures.1 c.number.ensures.same c.number.ensures.number c.in_ok-count.was c.new-pool.ensures.all.1 c.steps.ensures.same.0 c.steps.ensures.taken c.in_err-steps.was))
 
 pub returns : goal.returns
 returns c =
-    read_done _ _ _ _ _ (here _ _ c.first.ensures c.in-Value.is) (rw (← c.room_of.ensures) (sym c.in-Done.is ∙ c.test-tested.ensures)) c.steps_at-taken.result c.steps_at-taken.ensures refl refl
+    let d : reading_answer c.args.message.now c.args.pool.now ≡ done = rw (← c.room_of.ensures) (sym c.test.ensures ∙ c.in_ok-test.was) in
+    let n = sym (c.steps.ensures.same.1 ∙ c.new-pool.ensures.same) in
+    read_all c.args.message.now c.new-reader.result c.number.new.self (ap (λ x. x.now) c.new-reader.ensures.0) c.new-reader.ensures.1 c.number.ensures.same c.number.ensures.number c.in_ok-count.was c.new-pool.ensures.all.1 c.steps.ensures.same.0 c.steps.ensures.taken c.in_ok-steps.was _ _ d c.new-pool.ensures.all.0 (search rules)

@@ -1,9 +1,8 @@
 -- By the cases of the work.
 use mathlib.Core.Path.{◌∙◌}
-use mathlib.Core.List.{[]}
 use Rattle.message.specs.Answers.{all_in_lem}
 use Rattle.message.proofs.FirstSteps.{one_in}
-use Rattle.message.proofs.Rows.{plain_work}
+use Rattle.message.proofs.Cases.{plain_work}
 use borrow.Enum.Refused.{opened}
 use Rattle.message.proofs.tests.ranges_in.Goals as goal
 
@@ -18,4 +17,4 @@ returns-in-ConvolveMatrix c = rw c.in-ConvolveMatrix.is (c.is_in.ensures ∙ one
 
 pub returns-in_default : goal.returns-in_default
 unfolding all_in_lem
-returns-in_default c = rw (plain_work [] c.args.work (opened c.in_default.in_default-own.keys4)).1
+returns-in_default c = rw (plain_work c.args.work (opened c.in_default.in_default-own.keys4))

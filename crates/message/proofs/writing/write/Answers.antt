@@ -1,23 +1,14 @@
 -- At a refusal nothing was called that stores; otherwise the message was written.
 use mathlib.Core.Path.{sym, ◌∙◌}
-use native.Mathlib.Omega.{arith}
-use Rattle.message.proofs.FirstSteps.{stays, few_steps}
-use borrow.Enum.Refused.{opened}
+use Rattle.message.proofs.FirstSteps.{few_steps, refused, written}
+use Rattle.message.proofs.Results.{passed_on}
 use Rattle.message.proofs.writing.write.Goals as goal
 
-pub returns-in_default : goal.returns-in_default
-returns-in_default c =
-    record {
-      answered = c.test-answer.ensures;
-      long = rw (← c.test-answer.ensures) (stays c.test-answer.result (opened c.in_default.in_default-own.keys2) _ _);
-      bytes = rw (← c.test-answer.ensures) (stays c.test-answer.result (opened c.in_default.in_default-own.keys2) _ _);
-    }
+pub returns-in_err-test : goal.returns-in_err-test
+returns-in_err-test c = refused _ _ (sym c.test.ensures ∙ c.in_err-test.was) (passed_on _ _ c.from_residual.ensures.1)
 
-pub message_into-length-requires : goal.message_into-length-requires
-message_into-length-requires c =
-    few_steps c.args.recipe c.args.pool.now _ (sym c.test-answer.ensures ∙ c.in-Done.is)
+pub message_into-requires : goal.message_into-requires
+message_into-requires c = few_steps c.args.recipe c.args.pool.now _ (sym c.test.ensures ∙ c.in_ok-test.was)
 
 pub returns : goal.returns
-returns c =
-    let done = sym c.test-answer.ensures ∙ c.in-Done.is in
-    record { answered = sym done; long = rw done (omega (arith, c.message_into-length.ensures.ends)); bytes = rw done c.message_into-length.ensures.stored }
+returns c = written _ _ (sym c.test.ensures ∙ c.in_ok-test.was) c.message_into.ensures

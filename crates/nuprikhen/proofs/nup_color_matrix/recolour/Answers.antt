@@ -4,4 +4,4 @@ use Rattle.nuprikhen.proofs.Calls.{filtered_called}
 use Rattle.nuprikhen.proofs.nup_color_matrix.recolour.Goals as goal
 
 pub returns : goal.returns
-returns c = filtered_called refl refl c.apply.ensures c.told.ensures
+returns c = filtered_called refl refl c.apply.ensures c.from.ensures

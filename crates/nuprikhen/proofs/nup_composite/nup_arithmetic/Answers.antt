@@ -4,4 +4,4 @@ use Rattle.nuprikhen.proofs.Calls.{filtered_called}
 use Rattle.nuprikhen.proofs.nup_composite.nup_arithmetic.Goals as goal
 
 pub returns : goal.returns
-returns c = filtered_called refl refl c.arithmetic.ensures c.told.ensures
+returns c = filtered_called refl refl c.arithmetic.ensures c.from.ensures

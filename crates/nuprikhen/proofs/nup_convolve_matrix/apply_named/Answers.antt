@@ -1,29 +1,32 @@
--- Numbers that name a case are served by the filter, and any others by the tests alone.
+-- The tests come in the definition's order, and numbers that name a case change no answer.
 use mathlib.Core.Path.{refl}
-use Rattle.sheet.proofs.Answers.{refusing, first_refusal, next_test, both_tests}
 use Rattle.sheet.proofs.Contracts.{filtered_refused, holds_refused}
 use Rattle.convolve_matrix.specs.ConvolveMatrix.{answer}
 use Rattle.nuprikhen.specs.Convolving.{convolve_answer}
 use Rattle.nuprikhen.proofs.Calls.{holds_as, filtered_as}
-use Rattle.nuprikhen.proofs.Naming.{then_named, unnamed, unnamed_holds}
+use Rattle.nuprikhen.proofs.Naming.{then_named, first_stands, second_stands, third_stands}
 use Rattle.nuprikhen.proofs.nup_convolve_matrix.apply_named.Goals as goal
 
-pub returns-in_default-sheets : goal.returns-in_default-sheets
+pub returns-in_err-test : goal.returns-in_err-test
 unfolding convolve_answer answer
-returns-in_default-sheets c =
-    let h = refusing c.test2-sheets.result c.in_default-sheets.in_default-sheets-own.keys2 in
-    let e = first_refusal c.args.named (first_refusal _ c.test2-sheets.ensures h) h in
-    record { filtered = filtered_refused e h refl; cleared = holds_refused e h refl }
+returns-in_err-test c =
+    let e = first_stands _ _ c.test.ensures c.in_err-test.was in
+    record { filtered = filtered_refused e c.from_residual.ensures.1 refl; cleared = holds_refused e refl }
 
-pub returns-in_default : goal.returns-in_default
+pub returns-in_err-test-2 : goal.returns-in_err-test-2
 unfolding convolve_answer answer
-returns-in_default c =
-    let e = both_tests c.and_then.ensures (next_test c.test2-sheets.ensures c.in-Done-sheets.is c.test.ensures) refl in
-    let h = refusing c.args.named c.in_default.in_default-own.keys2 in
-    record { filtered = unnamed e c.test.result c.args.named c.and_then.ensures h refl; cleared = unnamed_holds e c.test.result c.args.named c.and_then.ensures h refl }
+returns-in_err-test-2 c =
+    let e = second_stands _ c.test.ensures c.in_ok-test.was c.test-2.ensures c.in_err-test-2.was in
+    record { filtered = filtered_refused e c.from_residual-in_err-test-2.ensures.1 refl; cleared = holds_refused e refl }
+
+pub returns-in_err-named : goal.returns-in_err-named
+unfolding convolve_answer answer
+returns-in_err-named c =
+    let e = third_stands c.test.ensures c.in_ok-test.was c.test-2.ensures c.in_ok-test-2.was c.in_err-named.was in
+    record { filtered = filtered_refused e c.from_residual-in_err-named.ensures.1 refl; cleared = holds_refused e refl }
 
 pub returns : goal.returns
 unfolding convolve_answer
 returns c =
-    let e = then_named _ _ c.in-Done.is in
+    let e = then_named _ _ c.in_ok-named.was in
     record { filtered = filtered_as refl refl e refl c.apply.ensures.filtered; cleared = holds_as refl refl e refl c.apply.ensures.cleared }

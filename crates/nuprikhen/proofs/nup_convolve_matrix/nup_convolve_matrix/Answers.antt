@@ -6,4 +6,4 @@ use Rattle.nuprikhen.proofs.nup_convolve_matrix.nup_convolve_matrix.Goals as goa
 pub returns : goal.returns
 returns c =
     let done = rw (c.all_of.ensures, c.edge_of.ensures, c.test_named.ensures) at c.apply_named.ensures in
-    (filtered_called refl refl done.filtered c.told.ensures, holds_as refl refl refl refl done.cleared)
+    (filtered_called refl refl done.filtered c.from.ensures, holds_as refl refl refl refl done.cleared)

@@ -4,4 +4,4 @@ use Rattle.nuprikhen.proofs.Calls.{filtered_called}
 use Rattle.nuprikhen.proofs.nup_displacement_map.nup_displacement_map.Goals as goal
 
 pub returns : goal.returns
-returns c = filtered_called refl refl c.apply_numbered.ensures c.told.ensures
+returns c = filtered_called refl refl c.apply_numbered.ensures c.from.ensures

@@ -6,4 +6,4 @@ use Rattle.nuprikhen.proofs.nup_lighting.nup_specular_lighting.Goals as goal
 pub returns : goal.returns
 returns c =
     let done = rw c.light_of.ensures at c.specular_lighting.ensures in
-    filtered_called refl refl done c.told.ensures
+    filtered_called refl refl done c.from.ensures

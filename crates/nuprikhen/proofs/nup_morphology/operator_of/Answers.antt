@@ -1,6 +1,5 @@
--- Each number is its case of the definition.
-use Rattle.nuprikhen.proofs.Operators.{not_zero}
+use Rattle.nuprikhen.proofs.Naming.{operator_names}
 use Rattle.nuprikhen.proofs.nup_morphology.operator_of.Goals as goal
 
 pub returns : goal.returns
-returns c = not_zero _ c.if-op-eq0.false
+returns c = rw (c.or.ensures, c.try_from.ensures, c.from.ensures) (operator_names c.args.op)

@@ -8,4 +8,4 @@ use Rattle.nuprikhen.proofs.nup_turbulence.nup_turbulence.Goals as goal
 pub returns : goal.returns
 returns c =
     let e = to_z-of_z w32 c.args.seed c.ranges.seed in
-    filtered_called refl refl (rw e at c.apply_named.ensures) c.told.ensures
+    filtered_called refl refl (rw e at c.apply_named.ensures) c.from.ensures

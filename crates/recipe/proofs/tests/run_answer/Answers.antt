@@ -1,12 +1,13 @@
 -- The sheets, then the recipe.
-use Rattle.sheet.proofs.Answers.{refusing, first_refusal, next_test}
-use Rattle.recipe.specs.Tests.{run_answer}
+use mathlib.Core.Path.{ap, sym, ◌∙◌}
+use Rattle.sheet.proofs.Answers.{first_err, first_ok, passed_on}
+use Rattle.recipe.specs.Tests.{whole, run_answer}
 use Rattle.recipe.proofs.tests.run_answer.Goals as goal
 
-pub returns-in_default : goal.returns-in_default
+pub returns-in_err-test : goal.returns-in_err-test
 unfolding run_answer
-returns-in_default c = first_refusal _ c.sheets_answer-sheets.ensures (refusing c.sheets_answer-sheets.result c.in_default.in_default-own.keys2)
+returns-in_err-test c = passed_on _ c.from_residual.ensures.1 ∙ sym (first_err _ (ap whole c.test.ensures) (ap whole c.in_err-test.was))
 
 pub returns : goal.returns
 unfolding run_answer
-returns c = next_test c.sheets_answer-sheets.ensures c.in-Done.is c.recipe_answer.ensures
+returns c = c.recipe_answer.ensures ∙ sym (first_ok _ (ap whole c.test.ensures) (ap whole c.in_ok-test.was))

@@ -8,5 +8,5 @@ pub near_place-requires : goal.near_place-requires
 unfolding of_bits
 near_place-requires c = up_to_end c.args.t (T_true c.if-t.true) (T_true c.if-t-2.true)
 
-pub returns : goal.returns
-returns c = record { cell_is = c.cell.ensures.0; fraction_is = c.fraction.ensures; inside = c.cell.ensures.1 }
+pub returns-else-t : goal.returns-else-t
+returns-else-t c = record { cell_is = c.cell.ensures.0; fraction_is = c.fraction.ensures; inside = c.cell.ensures.1 }

@@ -5,4 +5,4 @@ use Rattle.turbulence.proofs.random.random.Goals as goal
 
 pub returns : goal.returns
 unfolding next
-returns c = (refl, next_state c.requires)
+returns c = let same = c.from.ensures in rw same (refl, next_state c.requires)

@@ -1,9 +1,7 @@
 -- `start` meets its contract: each number on the way from a seed to a positive one is an i32.
-use mathlib.Core.Path.{◌≡◌, sym, ◌∙◌}
+use mathlib.Core.Path.{◌≡◌, refl, sym, ◌∙◌}
 use mathlib.Core.Bool.{true, false}
-use native.Mathlib.Nat.{min-eq_left, min-eq_right}
 use native.Mathlib.Omega.{arith}
-use borrow.Author.Tests.{ltb-true, ltb-false}
 use lib.IntN.{ℤ, pos}
 use lib.Signed.{le_z}
 use mir.Syntax.{w32}
@@ -43,29 +41,20 @@ overflow_add-positive c =
     let back = seed_back c.args.seed c.ranges.seed in
     rw back (raised_fits c.args.seed c.ranges.seed (rw back at c.if-seed-le0.true) _ (omega arith) (omega arith))
 
-pub overflow_cast-result : goal.overflow_cast-result
-overflow_cast-result c =
+pub overflow_cast-positive : goal.overflow_cast-positive
+overflow_cast-positive c =
     let p = above c.args.seed c.ranges.seed in
     let value : to_z w32 c.if-seed-le0.positive-bits ≡ pos p.size =
     elim c.if-seed-le0.branch [ then-seed-le0 w ↦ low c.args.seed c.ranges.seed w.positive-is w.if-seed-le0.true | else-seed-le0 w ↦ high c.args.seed c.ranges.seed w.positive-is w.if-seed-le0.false ] in
     let h = p.high in
     rw value (tt, record { fits = omega arith })
 
-pub returns-then-positive-gt2147483646 : goal.returns-then-positive-gt2147483646
+pub returns : goal.returns
 unfolding start_of
-returns-then-positive-gt2147483646 c =
+returns c =
     let p = above c.args.seed c.ranges.seed in
     let value : to_z w32 c.if-seed-le0.positive-bits ≡ pos p.size =
     elim c.if-seed-le0.branch [ then-seed-le0 w ↦ low c.args.seed c.ranges.seed w.positive-is w.if-seed-le0.true | else-seed-le0 w ↦ high c.args.seed c.ranges.seed w.positive-is w.if-seed-le0.false ] in
-    let h = ltb-true _ p.size (rw value at c.if-positive-gt2147483646.true) in
-    (rw p.is (sym (min-eq_right (omega arith))), record { low = omega arith; high = omega arith })
-
-pub returns-else-positive-gt2147483646 : goal.returns-else-positive-gt2147483646
-unfolding start_of
-returns-else-positive-gt2147483646 c =
-    let p = above c.args.seed c.ranges.seed in
-    let value : to_z w32 c.if-seed-le0.positive-bits ≡ pos p.size =
-    elim c.if-seed-le0.branch [ then-seed-le0 w ↦ low c.args.seed c.ranges.seed w.positive-is w.if-seed-le0.true | else-seed-le0 w ↦ high c.args.seed c.ranges.seed w.positive-is w.if-seed-le0.false ] in
-    let h = ltb-false _ p.size (rw value at c.if-positive-gt2147483646.false) in
     let l = p.low in
-    rw (value, p.is) (sym (min-eq_left (omega arith)), record { low = omega arith; high = omega arith })
+    let least = c.min.ensures in
+    rw (least, value, p.is) (refl, record { low = omega arith; high = omega arith })

@@ -1,5 +1,4 @@
 -- Each turn stores the next pair, and carries the state after it.
-use Prim.Native.Nat.{◌-◌, ◌≤◌}
 use mathlib.Core.Path.{◌≡◌}
 use lib.Ieee.{nan}
 use Rattle.turbulence.specs.Random.{State}
@@ -8,7 +7,4 @@ use Rattle.turbulence.proofs.Filled.{Filled}
 use Rattle.turbulence.proofs.tables.draw_pairs.Given as goal
 
 abbrev pub invariant-loop-d : goal.invariant-loop-d
-invariant-loop-d l = Filled nan (λ k. gradient_x (after_pairs k l.state)) 1024 l.x l.d × Filled nan (λ k. gradient_y (after_pairs k l.state)) 1024 l.y l.d × (l.s ≡ after_pairs l.d l.state) × State l.s × (l.d ≤ 1024)
-
-abbrev pub decreases-loop-d : goal.decreases-loop-d
-decreases-loop-d l = 1024 - l.d
+invariant-loop-d l = Filled nan (λ k. gradient_x (after_pairs k l.state)) 1024 l.pairs.x l.d × Filled nan (λ k. gradient_y (after_pairs k l.state)) 1024 l.pairs.y l.d × (l.pairs.state ≡ after_pairs l.d l.state) × State l.pairs.state

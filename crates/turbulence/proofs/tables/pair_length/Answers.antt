@@ -3,4 +3,4 @@ use Rattle.turbulence.proofs.tables.pair_length.Goals as goal
 
 pub returns : goal.returns
 unfolding pair_length
-returns c = c.sqrt64.ensures
+returns c = c.sqrt.ensures

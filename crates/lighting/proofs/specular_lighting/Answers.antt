@@ -1,7 +1,0 @@
--- The numbers are tested, then the sheets.
-use Rattle.lighting.proofs.specular_lighting.Goals as goal
-
-pub returns : goal.returns
-returns c =
-    let f = rw c.test_specular-tested.ensures at c.filter.ensures in
-    record { answered = f.answered; held = record { elements = f.held.elements } }

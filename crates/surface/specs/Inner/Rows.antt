@@ -1,0 +1,39 @@
+-- Words of the surface's contracts: the columns of a row.
+use Rattle.std.specs.Prelude.{ℕ, ◌+◌, ◌-◌, ◌≡◌, ◌≤◌, ◌<◌, min, cond, List, get_or, eqb, ltb}
+use Rattle.std.proofs.Math.IntN.{sub_ℕ}
+use Rattle.surface.specs.declared.Normal.{Normal}
+use Rattle.surface.specs.declared.strip.Row.{Row}
+use Rattle.surface.specs.Surface.{alpha_at, weighted, behind, ahead, turned, lean_factor, normal_at}
+use Rattle.surface.specs.Inner.Leans.{weighted_in}
+
+-- alpha of the pixel in column x and row v of the sheet that a row is of
+abbrev pub alpha_in : Row → (x v : ℕ) → ℕ
+alpha_in row x v = alpha_at row.strip.width row.strip.src.now x v
+
+-- Place i of a row's columns is the sheet's column left + i - 1, for which an edge has one more column: its alphas weighted across the row,
+-- where beyond an edge those of the edge's own column stand again.
+unfoldable pub wide_sum : Row → ℕ → ℕ
+wide_sum row i = weighted row.strip.height (alpha_in row (min (row.strip.left + i - 1) (row.strip.width - 1))) row.y
+
+-- and its alpha in row v, which is 0 beyond an edge
+unfoldable pub wide_alpha : Row → (v i : ℕ) → ℕ
+wide_alpha row v i = let k = row.strip.left + i in cond (eqb k 0) 0 (cond (ltb (k - 1) row.strip.width) (alpha_in row (k - 1) v) 0)
+
+-- the places from a to b - 1 hold these columns
+pub record Holds (row : Row) (a b : ℕ) (sums above below : List ℕ) : Type 0 where
+  pub sums_are : (i : ℕ) → a ≤ i → i < b → get_or sums i 0 ≡ wide_sum row i
+  pub above_are : (i : ℕ) → a ≤ i → i < b → get_or above i 0 ≡ wide_alpha row (behind row.y) i
+  pub below_are : (i : ℕ) → a ≤ i → i < b → get_or below i 0 ≡ wide_alpha row (ahead row.strip.height row.y) i
+
+-- how the surface leans in a row's column i by the columns, of which place i is the one before it
+abbrev pub normal_in : Row → (sums above below : List ℕ) → ℕ → Normal
+normal_in row sums above below i = record {
+  fx = lean_factor row.strip.width row.strip.height (row.strip.left + i) row.y;
+  fy = lean_factor row.strip.height row.strip.width row.y (row.strip.left + i);
+  x = turned (sub_ℕ (get_or sums (i + 2) 0) (get_or sums i 0));
+  y = turned (sub_ℕ (weighted_in below i) (weighted_in above i));
+}
+
+-- the same by the definition
+abbrev pub normal_of : Row → ℕ → Normal
+normal_of row i = normal_at row.strip.width row.strip.height row.strip.src.now (row.strip.left + i) row.y
