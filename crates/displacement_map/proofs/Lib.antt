@@ -1,6 +1,5 @@
 pub mod Distance
 mod Bytes
-mod FromFn
 pub mod Numbered
 mod Rows
 mod StepCount

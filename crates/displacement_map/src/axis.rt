@@ -17,11 +17,13 @@ fn shift(c: u8, s: f32, scale: f32) -> f32
     (floats::normalized(c) - 0.5) * s * scale
 }
 
-// How far each byte of the map moves.
-fn shifts(s: f32, scale: f32) -> [f32; 256]
-    ensures { Shifts s scale result }
+// How far each byte of the map moves is stored. Given back, or moved into an axis, the array would stand on the stack twice.
+pub fn store_shifts(s: f32, scale: f32, values: &mut [f32; 256])
+    ensures { Shifts s scale values.new }
 {
-    std::array::from_fn(|i| shift(i as u8, s, scale))
+    for i in 0..256 {
+        values[i] = shift(i as u8, s, scale);
+    }
 }
 
 // The selected channel of the map's pixel.
@@ -37,20 +39,21 @@ fn selected(selector: ColorChannel, pixel: Straight) -> u8
 }
 
 // How the map moves columns, or rows: by one of its channels, each of whose bytes has a shift.
-#[derive(Drop)]
-pub struct Axis {
+#[derive(Clone, Copy)]
+pub struct Axis<'a> {
     pub selector: ColorChannel,
     pub s: f32,
     pub scale: f32,
-    shifts: [f32; 256],
+    shifts: &'a [f32; 256],
     pub ghost canvas: { T (in_canvas s) },
     pub ghost range: { T (in_scale scale) },
-    pub ghost shifted: { Shifts s scale shifts },
+    pub ghost shifted: { Shifts s scale shifts.now },
 }
 
-impl Axis {
-    pub fn of(selector: ColorChannel, s: f32, scale: f32) -> Axis
-        requires { T (in_canvas s) × T (in_scale scale) }
+impl<'a> Axis<'a> {
+    pub fn of(selector: ColorChannel, s: f32, scale: f32, shifts: &'a [f32; 256]) -> Axis<'a>
+        requires range { T (in_canvas s) × T (in_scale scale) }
+        requires shifted { Shifts s scale shifts.now }
         ensures selector { result.selector ≡ selector }
         ensures s { result.s ≡ s }
         ensures scale { result.scale ≡ scale }
@@ -59,7 +62,7 @@ impl Axis {
             selector,
             s,
             scale,
-            shifts: shifts(s, scale),
+            shifts,
         }
     }
 

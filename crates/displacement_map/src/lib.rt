@@ -109,8 +109,12 @@ pub fn apply(
     sheet::test(width, height, &[src.len(), map.len(), dest.len()])?;
     test(sx, sy, scale)?;
     let picture = Picture { width, height, src };
-    let columns = Axis::of(x_channel, sx, scale);
-    let rows = Axis::of(y_channel, sy, scale);
+    let mut across = [0.0f32; 256];
+    let mut down = [0.0f32; 256];
+    axis::store_shifts(sx, scale, &mut across);
+    axis::store_shifts(sy, scale, &mut down);
+    let columns = Axis::of(x_channel, sx, scale, &across);
+    let rows = Axis::of(y_channel, sy, scale, &down);
     moving::displace(&columns, &rows, &picture, map, dest);
     Ok(())
 }

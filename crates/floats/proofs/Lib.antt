@@ -26,10 +26,14 @@ pub mod SignedSums
 pub mod RoundedWhole
 pub mod WholePatterns
 pub mod Patterns
+pub mod RoundedRoot
+pub mod RootPatterns
+pub mod RootEnds
 pub mod LibraryRoot
 pub mod FirstRoots
 pub mod NarrowedSize
 pub mod NarrowedSign
 pub mod TowardZero
+pub mod FiniteTests
 pub mod Ordered
 pub mod Absolutes

@@ -1,82 +1,20 @@
 -- The library's square root, which is taken to so many binary places that nothing lies between it and what is rounded, is the one that compares squares. Assumes nothing.
-use Rattle.std.proofs.Common.{◌≡◌, ℕ, zero, suc, ◌+◌, ◌-◌, ◌*◌, ◌/◌, ◌%◌, ◌^◌, ◌<◌, ◌≤◌, Bool, true, false, cond, T, eqb, sym, refl, ap, ◌∙◌, subst, le_trans, le_of_eq, lt_of_lt_of_le, lt_of_le_of_lt, mul-le-mul_right, mul_assoc, mul_comm, mul_left_comm, mul-lt-mul_of_pos_right, mul-pos, mul-div_cancel, div-add-mod', eqb→eq, add-one, add-mul, one-mul, zero-lt-suc, lit≤, pow-suc, ℤ, pos, negsuc, le_antisymm, le_of_suc-le-suc, div-lt_iff_lt-mul, le-div_iff_mul-le, mul_right_comm, arith, pow_pos, pow-add, not, leb, mul-le-mul, lt_of_mul-lt-mul_right, mul-le-mul_left, lt_of_not-le, mul-one, not-le_of_lt, lit<, leb→le}
+use Rattle.std.proofs.Common.{◌≡◌, ℕ, zero, suc, ◌+◌, ◌-◌, ◌*◌, ◌/◌, ◌%◌, ◌^◌, ◌<◌, ◌≤◌, Bool, true, false, cond, T, eqb, sym, refl, ap, ◌∙◌, subst, le_trans, le_of_eq, lt_of_lt_of_le, lt_of_le_of_lt, mul-le-mul_right, mul_assoc, mul_comm, mul_left_comm, mul-lt-mul_of_pos_right, mul-pos, mul-div_cancel, div-add-mod', eqb→eq, add-one, add-mul, one-mul, zero-lt-suc, lit≤, pow-suc, ℤ, pos, negsuc, le_antisymm, le_of_suc-le-suc, div-lt_iff_lt-mul, le-div_iff_mul-le, mul_right_comm, arith, pow_pos, pow-add}
 use Rattle.std.proofs.Math.Nat.{div-div-eq-div-mul}
 use Prim.Native.Nat.{compare, Ordering}
-use native.Mathlib.Nat.{mul-mul-mul_comm, eq_of_mul-eq-mul_right}
-use lib.Dec.{eqb_refl, nleb→lt}
+use native.Mathlib.Nat.{mul-mul-mul_comm}
+use lib.Dec.{eqb_refl}
 use lib.Ieee.{Float, nan, inf, fin, Format, binary32, binary64, prec, low, up, down, size, nearest, units, round, fits, root_twice, root_below, hid, odd, of_bits, to_bits}
 use lib.Ieee.Digits.{size-lt, size-le}
 use lib.Ieee.Fits.{up_pos, down_pos, two, two-le_pos}
 use lib.Ieee.Nearest.{closest}
 use lib.Ieee.Root.{whole_part}
-use Rattle.floats.specs.Root.{root, round_root, sqrt_of, root_at}
+use Rattle.floats.specs.Root.{root, round_root, sqrt_of}
 use Rattle.floats.proofs.Closest.{Cmp, cmp}
+use Rattle.floats.proofs.RoundedRoot.{sq_suc, sq_le, sq_lt_back, four, Root, root_is, cmp_cancel, core, round_root_is}
 use Rattle.floats.proofs.Fractions.{size_gt, round_at}
 use Rattle.floats.proofs.Units.{in_units_lem}
 use lib.Ieee as Ieee
-
--- ---- squares
-sq_suc : (q : ℕ) → suc q * suc q ≡ q * q + 2 * q + 1
-sq_suc q = omega arith
-
-four : (k : ℕ) → 4 ^ k ≡ 2 ^ k * 2 ^ k
-four zero = refl
-four (suc k) =
-    pow-suc 4 k ∙ ap (λ (x : ℕ). x * 4) (four k) ∙ go (2 ^ k) ∙ ap (λ (x : ℕ). x * x) (sym (pow-suc 2 k))
-  where
-    go : (a : ℕ) → a * a * 4 ≡ a * 2 * (a * 2)
-    go a = omega arith
-
-pow_le_self : (a : ℕ) → 0 < a → a ≤ a * a
-pow_le_self a h = le_trans (le_of_eq (sym (mul-one a))) (mul-le-mul_left a h)
-
-sq_le : {a b : ℕ} → a ≤ b → a * a ≤ b * b
-sq_le h = mul-le-mul h h
-
-sq_lt_back : (a b : ℕ) → a * a < b * b → a < b
-sq_lt_back a b h = lt_of_not-le (λ (g : b ≤ a). not-le_of_lt h (sq_le g))
-
--- ---- `root` is the whole part of the root
-abbrev Root : ℕ → ℕ → Type 0
-Root n r = (r * r ≤ n) × (n < suc r * suc r)
-
-step : (n r0 : ℕ) → Root (n / 4) r0 → Root n (cond (leb (suc (2 * r0) * suc (2 * r0)) n) (suc (2 * r0)) (2 * r0))
-step n r0 h = go (leb (suc (2 * r0) * suc (2 * r0)) n) (leb→le (suc (2 * r0) * suc (2 * r0)) n) (nleb→lt (suc (2 * r0) * suc (2 * r0)) n)
-  where
-    lo : (n m r : ℕ) → m ≡ n / 4 → r * r ≤ m → 2 * r * (2 * r) ≤ n
-    lo n m r e a = omega arith
-
-    hi : (n m r : ℕ) → m ≡ n / 4 → m < suc r * suc r → n < suc (suc (2 * r)) * suc (suc (2 * r))
-    hi n m r e a = omega arith
-
-    go : (b : Bool) → (T b → suc (2 * r0) * suc (2 * r0) ≤ n) → (T (not b) → n < suc (2 * r0) * suc (2 * r0)) → Root n (cond b (suc (2 * r0)) (2 * r0))
-    go true y z = (y tt, hi n (n / 4) r0 refl h.1)
-    go false y z = (lo n (n / 4) r0 refl h.0, z tt)
-
-root_at_is : (k n : ℕ) → n < 4 ^ k → Root n (root_at k n)
-unfolding root_at
-root_at_is zero n h = (none n h, h)
-  where
-    none : (n : ℕ) → n < 1 → 0 ≤ n
-    none n h = omega arith
-root_at_is (suc k) n h = step n (root_at k (n / 4)) (root_at_is k (n / 4) ((div-lt_iff_lt-mul (lit< tt)).1 (lt_of_lt_of_le h (le_of_eq (pow-suc 4 k)))))
-
-root_is : (n : ℕ) → Root n (root n)
-unfolding root
-root_is n = root_at_is (size n) n (lt_of_lt_of_le (size-lt n) (le_trans (pow_le_self (2 ^ size n) (pow_pos (size n))) (le_of_eq (sym (four (size n))))))
-
-cmp_cancel : (o : Ordering) (a b z : ℕ) → 0 < z → Cmp o (a * z) (b * z) → Cmp o a b
-cmp_cancel Ordering.lt a b z Z c = lt_of_mul-lt-mul_right z c
-cmp_cancel Ordering.eq a b z Z c = eq_of_mul-eq-mul_right z Z a b c
-cmp_cancel Ordering.gt a b z Z c = lt_of_mul-lt-mul_right z c
-
--- ---- `round_root`, from its n, w and k on
-abbrev core : Format → ℕ → ℕ → ℕ → ℕ → Float
-core f n den w k = units f false (nearest (w / 2 ^ k) (compare (4 * n) ((2 * (w / 2 ^ k) + 1) * (2 * (w / 2 ^ k) + 1) * 4 ^ k * den))) k
-
-round_root_is : (f : Format) (num den : ℕ) → round_root f num den ≡ core f (num * 4 ^ low f) den (root (num * 4 ^ low f / den)) (size (root (num * 4 ^ low f / den)) - prec f)
-unfolding round_root
-round_root_is f num den = refl
 
 -- ---- `compare`
 cmp_same : (o : Ordering) (a b : ℕ) → Cmp o a b → compare a b ≡ o

@@ -30,8 +30,15 @@ impl Float for f32 {
         f32::is_finite(self)
     }
 
+    // Of a NaN the bits are kept, and what is below zero has one NaN, as on every processor.
     fn sqrt(self) -> f32 {
-        f32::sqrt(self)
+        if self > 0.0 {
+            f32::sqrt(self)
+        } else if self < 0.0 {
+            f32::NAN
+        } else {
+            self
+        }
     }
 }
 
@@ -46,7 +53,14 @@ impl Float for f64 {
         f64::is_finite(self)
     }
 
+    // Of a NaN the bits are kept, and what is below zero has one NaN, as on every processor.
     fn sqrt(self) -> f64 {
-        f64::sqrt(self)
+        if self > 0.0 {
+            f64::sqrt(self)
+        } else if self < 0.0 {
+            f64::NAN
+        } else {
+            self
+        }
     }
 }

@@ -32,9 +32,9 @@ row_pixel reflection color f i lit c h =
 
 module _ (l : Lighting) (r : Row) where
   abbrev factor_in : ℕ → Float
-  factor_in i = factor_at l r.strip.width r.strip.height r.strip.src.now (r.strip.left + i) r.y
+  factor_in i = factor_at l r.strip.width r.strip.height r.src.now (r.strip.left + i) r.y
 
-  byte_lit : (j : ℕ) → j < 4 * r.strip.count → lit_channel l.reflection l.color (factor_in (j / 4)) (j % 4) ≡ lit_at l r.strip.width r.strip.height r.strip.src.now (start_of r + j)
+  byte_lit : (j : ℕ) → j < 4 * r.strip.count → lit_channel l.reflection l.color (factor_in (j / 4)) (j % 4) ≡ lit_at l r.strip.width r.strip.height r.src.now (start_of r + j)
   byte_lit j b =
       let w = r.strip.width in
       let x = r.strip.left + j / 4 in
@@ -48,7 +48,7 @@ module _ (l : Lighting) (r : Row) where
       sym (rw (e, f, g))
 
   -- the passes together
-  module _ (V : ℕ → Vector3 → Type 0) (S : ℕ → Float → Type 0) (rays : (i : ℕ) (v : Vector3) (n : Float) → i < r.strip.count → V i v → S i n → ray_by l.reflection v n ≡ ray_at l r i) {sums above below : List ℕ} {lengths alongs factors : List Float} (slopes : Sloped l.scale r sums above below lengths) (a : Filled (λ i b t. (v : Vector3) × V i v × (t ≡ along_by l.scale (normal_in r sums above below i) b v)) lengths alongs) (f : Filled (λ i b t. (n : Float) × S i n × (t ≡ factor_along l.reflection l.constant b n)) alongs factors) where
+  module _ (V : ℕ → Vector3 → Type 0) (S : ℕ → Float → Type 0) (rays : (i : ℕ) (v : Vector3) (n : Float) → i < r.strip.count → V i v → S i n → ray_by l.reflection v n ≡ ray_at l r i) {sums above below : List ℕ} {lengths alongs factors : List Float} (slopes : Sloped l.scale r sums above below lengths) (a : Filled (λ i b t. (v : Vector3) × V i v × (t ≡ along_by l.scale (normal_in r.strip sums above below i r.y) b v)) lengths alongs) (f : Filled (λ i b t. (n : Float) × S i n × (t ≡ factor_along l.reflection l.constant b n)) alongs factors) where
     factor_is_that : (i : ℕ) → i < r.strip.count → get_or factors i nan ≡ factor_in i
     unfolding factor_at
     factor_is_that i p =

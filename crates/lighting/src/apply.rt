@@ -14,16 +14,18 @@ use sheet::{Refusal, STRIP};
 use surface::{Row, Strip};
 
 // Lights every row of a strip.
-fn light_rows(lighting: Lighting, strip: &Strip, work: &mut Work, dest: &mut [u8])
-    requires narrow { strip.now.count ≤ strip_limit }
-    requires sheet { IsSheetOf strip.now dest.old }
-    requires strip_done { StripDone lighting strip.now 0 dest.old }
+fn light_rows(lighting: Lighting, strip: Strip, src: &[u8], work: &mut Work, dest: &mut [u8])
+    requires narrow { strip.count ≤ strip_limit }
+    requires source { IsSheetOf strip src.now }
+    requires sheet { IsSheetOf strip dest.old }
+    requires strip_done { StripDone lighting strip src.now 0 dest.old }
     ensures same { length dest.new ≡ length dest.old }
-    ensures strip_done { StripDone lighting strip.now strip.now.height dest.new }
+    ensures strip_done { StripDone lighting strip src.now strip.height dest.new }
 {
+    let rays = lighting.rays();
     for y in 0..strip.height {
-        let row = Row { strip: *strip, y };
-        rows::light_row(lighting, &row, work, dest);
+        let row = Row { src, strip, y };
+        rows::light_row(lighting, rays, &row, work, dest);
     }
 }
 
@@ -39,13 +41,12 @@ fn light_all(lighting: Lighting, width: usize, height: usize, src: &[u8], dest: 
         let left = STRIP * k;
         let count = sheet::strip_from(width, left);
         let strip = Strip {
-            src,
             width,
             height,
             left,
             count,
         };
-        light_rows(lighting, &strip, &mut work, dest);
+        light_rows(lighting, strip, src, &mut work, dest);
     }
 }
 

@@ -58,6 +58,13 @@ pub enum Ray {
     Short,
 }
 
+// What a light's rays are made of: a distant light's are one and the same vector, of this length; a point's go to its place.
+#[derive(Clone, Copy)]
+pub enum Rays {
+    Same(Vector3, f32),
+    To(Vector3),
+}
+
 // From the surface of a pixel to a point.
 pub fn to_point(point: Vector3, scale: f32, alpha: u8, x: u16, y: u16) -> Vector3
     ensures { result ≡ from_surface point scale alpha x y }

@@ -3,8 +3,9 @@ ghost use Rattle.std.specs.Prelude.{◌≡◌};
 ghost use Rattle.lighting.specs.Light as Light;
 ghost use Rattle.lighting.specs.Lighting.{lit_colour};
 ghost use Rattle.lighting.specs.Inner.Pixels.{along_by, factor_along, Lit};
+ghost use Rattle.lighting.specs.Inner.Rows.{RaysOf};
 
-use crate::light::{LightSource, Reflection};
+use crate::light::{LightSource, Rays, Reflection};
 use crate::vector::Vector3;
 use sheet::pixel::{Either, Pixel, Premultiplied, Straight};
 use surface::Normal;
@@ -65,6 +66,19 @@ impl Color {
 }
 
 impl Lighting {
+    // What its light's rays are made of.
+    pub fn rays(self) -> Rays
+        ensures { RaysOf self result }
+    {
+        match self.light {
+            LightSource::Distant(x, y, z) => {
+                let vector = self.reflection.ray_vector(Vector3 { x, y, z });
+                Rays::Same(vector, vector.length())
+            }
+            LightSource::Point(x, y, z) => Rays::To(Vector3 { x, y, z }),
+        }
+    }
+
     // The surface's normal vector.
     pub fn normal_vector(self, normal: Normal) -> Vector3
         ensures { result ≡ Light.normal_vector self.scale normal }

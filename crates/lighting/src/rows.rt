@@ -5,10 +5,10 @@ ghost use Rattle.sheet.specs.Inner.Strips.{strip_limit};
 ghost use Rattle.surface.specs.Inner.Rows.{normal_in};
 ghost use Rattle.lighting.specs.Inner.Pixels.{along_by, factor_along};
 ghost use Rattle.lighting.specs.Inner.Rays.{square, ray_by};
-ghost use Rattle.lighting.specs.Inner.Rows.{Filled, Measured, Sloped, IsSheetOf, LitRow, RowDone, from_row, point_vector, point_ray, ray_at};
+ghost use Rattle.lighting.specs.Inner.Rows.{Filled, Measured, Sloped, RaysOf, IsSheetOf, LitRow, RowDone, from_row, point_vector, point_ray, ray_at};
 
 use crate::light;
-use crate::light::{LightSource, Reflection};
+use crate::light::{LightSource, Rays, Reflection};
 use crate::pixel::Lighting;
 use crate::vector::Vector3;
 use sheet::STRIP;
@@ -72,7 +72,13 @@ fn from_row(lighting: Lighting, point: Vector3, row: &Row, i: usize) -> Vector3
     ensures { result ≡ from_row point lighting.scale row.now i }
 {
     let alpha = row.alpha(row.strip.left + i, row.y);
-    light::to_point(point, lighting.scale, alpha, row.column(i), row.y as u16)
+    light::to_point(
+        point,
+        lighting.scale,
+        alpha,
+        row.strip.column(i),
+        row.y as u16,
+    )
 }
 
 // The vector of the ray from a row's column i to a point, where the distances are given.
@@ -128,7 +134,7 @@ fn light_along<V: Fn(usize) -> Vector3, S: Fn(usize) -> f32>(
         lengths,
         |i: usize, length: f32| -> f32
             requires { (i < row.now.strip.count) × (i < strip_limit) × V.pre vector i }
-            ensures { (v : Vector3) × V.post vector i v × (result ≡ along_by lighting.scale (normal_in row.entry.now columns.entry.now.sums columns.entry.now.above columns.entry.now.below i) length v) }
+            ensures { (v : Vector3) × V.post vector i v × (result ≡ along_by lighting.scale (normal_in row.entry.now.strip columns.entry.now.sums columns.entry.now.above columns.entry.now.below i row.entry.now.y) length v) }
         { lighting.along(columns.normal_in(row, i), length, vector(i)) },
     );
     fill(
@@ -160,9 +166,10 @@ fn point_lengths(
     }
 }
 
-// The row's bytes of `dest` become those of the result.
-pub fn light_row(lighting: Lighting, row: &Row, work: &mut Work, dest: &mut [u8])
+// The row's bytes of `dest` become those of the result, by what the light's rays are made of.
+pub fn light_row(lighting: Lighting, rays: Rays, row: &Row, work: &mut Work, dest: &mut [u8])
     requires narrow { row.now.strip.count ≤ strip_limit }
+    requires of_light { RaysOf lighting rays }
     requires sheet { IsSheetOf row.now.strip dest.old }
     ensures { RowDone lighting row.now dest.old dest.new }
 {
@@ -176,14 +183,11 @@ pub fn light_row(lighting: Lighting, row: &Row, work: &mut Work, dest: &mut [u8]
     let (spans, _) = spans.split_at_mut(row.strip.count);
     let (sizes, _) = sizes.split_at_mut(row.strip.count);
     slopes(lighting, row, columns, lengths);
-    match lighting.light {
-        LightSource::Distant(x, y, z) => {
-            let vector = lighting.reflection.ray_vector(Vector3 { x, y, z });
-            let size = vector.length();
+    match rays {
+        Rays::Same(vector, size) => {
             light_along(lighting, row, columns, lengths, |_| vector, |_| size, dest);
         }
-        LightSource::Point(x, y, z) => {
-            let point = Vector3 { x, y, z };
+        Rays::To(point) => {
             point_lengths(lighting, point, row, spans, sizes);
             light_along(
                 lighting,

@@ -28,7 +28,8 @@ fn test_named(edge: u8, preserve: u8) -> Result<(), Refusal>
     Ok(())
 }
 
-// The filter, where the test of the two numbers answered `named`; they are refused after all else.
+// The filter, where the test of the two numbers answered `named`; they are refused after all else. The filter makes its tests
+// itself, so that a kernel is tested once.
 fn apply_named(
     named: Result<(), Refusal>,
     matrix: ConvolveMatrix,
@@ -41,9 +42,11 @@ fn apply_named(
     ensures filtered { Filtered (convolve_answer named matrix kernel.now width height src.old scratch.old) result (convolved matrix kernel.now width height src.old) (lent src.old src.new) }
     ensures cleared { Cleared 0 (convolve_answer named matrix kernel.now width height src.old scratch.old) (lent scratch.old scratch.new) }
 {
-    sheet::test(width, height, &[src.len(), scratch.len()])?;
-    convolve_matrix::test(matrix, kernel)?;
-    named?;
+    if let Err(refusal) = named {
+        sheet::test(width, height, &[src.len(), scratch.len()])?;
+        convolve_matrix::test(matrix, kernel)?;
+        return Err(refusal);
+    }
     convolve_matrix::apply(matrix, kernel, width, height, src, scratch)
 }
 

@@ -64,6 +64,19 @@ second_err a b f g = first_ok _ a b ∙ (sym f ∙ g)
 pub both_ok : {E : Type 0} {p q r t : Result ⊤ E} → r ≡ p → r ≡ Done → t ≡ q → t ≡ Done → and_then p q ≡ Done
 both_ok a b f g = first_ok _ a b ∙ (sym f ∙ g)
 
+pub first_refusal : {E : Type 0} {p r : Result ⊤ E} (q : Result ⊤ E) → r ≡ p → IsRefusal r → r ≡ and_then p q
+first_refusal {E} {p} {r} q e h = rw (← e) (sym (stays r h _ _))
+
+pub next_test : {E : Type 0} {p q r t : Result ⊤ E} → r ≡ p → r ≡ Done → t ≡ q → t ≡ and_then p q
+next_test e d f = f ∙ sym (first_ok _ e d)
+
+-- what `and_then` of two tests tells: its answer, and where it is Done that both pass
+pub both_tests : {E : Type 0} {p q t u r : Result ⊤ E} → r ≡ and_then t u → t ≡ p → u ≡ q → r ≡ and_then p q
+both_tests e f g = rw (← f, ← g) e
+
+pub both_pass : {E : Type 0} {p q r : Result ⊤ E} → r ≡ and_then p q → r ≡ Done → (p ≡ Done) × (q ≡ Done)
+both_pass {E} {p} {q} {r} e d = both_done p q (sym e ∙ d)
+
 -- ---- the sides, then the lengths
 side_answer : (t u : Bool) (r : Refusal) → cond t (cond u Done (Err r)) (Err r) ≡ and_then (cond t Done (Err r)) (cond u Done (Err r))
 side_answer true u r = refl

@@ -4,15 +4,22 @@ ghost use Rattle.sheet.specs.Pixel.{channel, Channels, PixelAt, set_channels, se
 
 use std::marker::PhantomData;
 
+// A kind of colours by which a pixel's channels are known.
+pub trait Colours: Copy {}
+
 // Colours that are not multiplied by alpha.
 #[derive(Clone, Copy)]
 pub struct Unmultiplied;
+
+impl Colours for Unmultiplied {}
 
 // Colours that are multiplied by alpha.
 #[derive(Clone, Copy)]
 pub struct Multiplied;
 
-// Colours of either kind: such a pixel is moved, and its channels are not looked at.
+impl Colours for Multiplied {}
+
+// Colours of either kind: such a pixel is moved, and has no channels to be looked at.
 #[derive(Clone, Copy)]
 pub struct Either;
 
@@ -27,22 +34,12 @@ pub type Straight = Pixel<Unmultiplied>;
 
 pub type Premultiplied = Pixel<Multiplied>;
 
-impl<K: Copy> Pixel<K> {
+impl<K: Colours> Pixel<K> {
     // The pixel of four channels.
     pub fn of(r: u8, g: u8, b: u8, a: u8) -> Pixel<K>
         ensures { Channels result.number r g b a }
     {
-        Pixel::numbered(u32::from_le_bytes([r, g, b, a]))
-    }
-
-    // The pixel of a number.
-    pub fn numbered(number: u32) -> Pixel<K>
-        ensures { result.number ≡ number }
-    {
-        Pixel {
-            number,
-            kind: PhantomData,
-        }
+        Pixel::numbered(number_of(r, g, b, a))
     }
 
     pub fn red(self) -> u8
@@ -68,13 +65,26 @@ impl<K: Copy> Pixel<K> {
     {
         lowest(self.number / 16777216)
     }
+}
+
+impl<K: Copy> Pixel<K> {
+    // The pixel of a number.
+    pub fn numbered(number: u32) -> Pixel<K>
+        ensures { result.number ≡ number }
+    {
+        Pixel {
+            number,
+            kind: PhantomData,
+        }
+    }
 
     // The pixel whose bytes begin at k.
     pub fn at(sheet: &[u8], k: usize) -> Pixel<K>
         requires { k + 3 < length sheet.now }
         ensures { PixelAt sheet.now k result.number }
     {
-        Pixel::of(sheet[k], sheet[k + 1], sheet[k + 2], sheet[k + 3])
+        let number = number_of(sheet[k], sheet[k + 1], sheet[k + 2], sheet[k + 3]);
+        Pixel::numbered(number)
     }
 
     // Stores the pixel at the bytes from k on.
@@ -83,10 +93,10 @@ impl<K: Copy> Pixel<K> {
         requires { k + 3 < length sheet.old }
         ensures { sheet.new ≡ set_pixel sheet.old k self.number }
     {
-        sheet[k] = self.red();
-        sheet[k + 1] = self.green();
-        sheet[k + 2] = self.blue();
-        sheet[k + 3] = self.alpha();
+        sheet[k] = lowest(self.number);
+        sheet[k + 1] = lowest(self.number / 256);
+        sheet[k + 2] = lowest(self.number / 65536);
+        sheet[k + 3] = lowest(self.number / 16777216);
     }
 }
 
@@ -99,6 +109,12 @@ pub fn map_pixels<K: Copy, F: Fn(Pixel<K>) -> Pixel<K>>(sheet: &mut [u8], f: F)
     for i in 0..sheet.len() / 4 {
         f(Pixel::at(sheet, 4 * i)).put(sheet, 4 * i);
     }
+}
+
+fn number_of(r: u8, g: u8, b: u8, a: u8) -> u32
+    ensures { Channels result r g b a }
+{
+    u32::from_le_bytes([r, g, b, a])
 }
 
 fn lowest(number: u32) -> u8

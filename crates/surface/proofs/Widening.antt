@@ -40,24 +40,25 @@ module _ (row : Row) (i : ℕ) where
   same_sum j e = rw e
 
 -- ---- one column more is stored
-set_as : (f : ℕ → ℕ) (l : List ℕ) (k v : ℕ) → k < length l → v ≡ f k → (i : ℕ) → ((i ≡ k → ⊥) → get_or l i 0 ≡ f i) → get_or (set l k v) i 0 ≡ f i
-set_as f l k v h e i r = go (ℕ_discrete i k)
+set_as : (P : ℕ → ℕ → Type 0) (l : List ℕ) (k v : ℕ) → k < length l → P k v → (i : ℕ) → ((i ≡ k → ⊥) → P i (get_or l i 0)) → P i (get_or (set l k v) i 0)
+set_as P l k v h e i r = go (ℕ_discrete i k)
   where
-    go : Dec (i ≡ k) → get_or (set l k v) i 0 ≡ f i
-    go (yes z) = rw z (get_or-set_same l k v 0 h ∙ e)
-    go (no d) = get_or-set_other l k i v 0 (omega arith) ∙ r d
+    go : Dec (i ≡ k) → P i (get_or (set l k v) i 0)
+    go (yes z) = rw (z, get_or-set_same l k v 0 h) e
+    go (no d) = rw (get_or-set_other l k i v 0 (omega arith)) (r d)
 
 module _ {row : Row} {a b : ℕ} {sums above below : List ℕ} (r : Holds row a b sums above below) (k : ℕ) (p : k < length sums) (q : k < length above) (t : k < length below) (a' b' : ℕ) (held : (i : ℕ) → a' ≤ i → i < b' → (i ≡ k → ⊥) → (a ≤ i) × (i < b)) where
-  pub stored : (s u v : ℕ) → s ≡ wide_sum row k → u ≡ wide_alpha row (behind row.y) k → v ≡ wide_alpha row (ahead row.strip.height row.y) k → Holds row a' b' (set sums k s) (set above k u) (set below k v)
-  stored s u v e f g = record {
-    sums_are = λ i l m. set_as (wide_sum row) sums k s p e i (λ d. let z = held i l m d in r.sums_are i z.0 z.1);
-    above_are = λ i l m. set_as (wide_alpha row (behind row.y)) above k u q f i (λ d. let z = held i l m d in r.above_are i z.0 z.1);
-    below_are = λ i l m. set_as (wide_alpha row (ahead row.strip.height row.y)) below k v t g i (λ d. let z = held i l m d in r.below_are i z.0 z.1);
+  pub stored : (s u v : ℕ) → s ≡ wide_sum row k → s ≤ 1020 → u ≡ wide_alpha row (behind row.y) k → v ≡ wide_alpha row (ahead row.strip.height row.y) k → Holds row a' b' (set sums k s) (set above k u) (set below k v)
+  stored s u v e small f g = record {
+    sums_are = λ i l m. set_as (λ j n. n ≡ wide_sum row j) sums k s p e i (λ d. let z = held i l m d in r.sums_are i z.0 z.1);
+    small = λ i l m. set_as (λ j n. n ≤ 1020) sums k s p small i (λ d. let z = held i l m d in r.small i z.0 z.1);
+    above_are = λ i l m. set_as (λ j n. n ≡ wide_alpha row (behind row.y) j) above k u q f i (λ d. let z = held i l m d in r.above_are i z.0 z.1);
+    below_are = λ i l m. set_as (λ j n. n ≡ wide_alpha row (ahead row.strip.height row.y) j) below k v t g i (λ d. let z = held i l m d in r.below_are i z.0 z.1);
   }
 
   -- the sheet's own
-  pub stored_own : (x : ℕ) → row.strip.left + k ≡ x + 1 → x < row.strip.width → Holds row a' b' (set sums k (weighted row.strip.height (alpha_in row x) row.y)) (set above k (alpha_in row x (behind row.y))) (set below k (alpha_in row x (ahead row.strip.height row.y)))
-  stored_own x e l = stored _ _ _ (sum_of row k x (omega arith)) (alpha_own row _ k x e l) (alpha_own row _ k x e l)
+  pub stored_own : (x : ℕ) → row.strip.left + k ≡ x + 1 → x < row.strip.width → weighted row.strip.height (alpha_in row x) row.y ≤ 1020 → Holds row a' b' (set sums k (weighted row.strip.height (alpha_in row x) row.y)) (set above k (alpha_in row x (behind row.y))) (set below k (alpha_in row x (ahead row.strip.height row.y)))
+  stored_own x e l small = stored _ _ _ (sum_of row k x (omega arith)) small (alpha_own row _ k x e l) (alpha_own row _ k x e l)
 
 -- ---- the leans
 module _ (row : Row) (i v : ℕ) (p : row.strip.left + i < row.strip.width) where
@@ -92,7 +93,7 @@ module _ {row : Row} {sums above below : List ℕ} (r : Holds row 0 (row.strip.c
   sum_at : (j x : ℕ) → j < row.strip.count + 2 → min (row.strip.left + j - 1) (row.strip.width - 1) ≡ x → get_or sums j 0 ≡ weighted row.strip.height (alpha_in row x) row.y
   sum_at j x l e = r.sums_are j (omega arith) l ∙ sym (sum_of row j x e)
 
-  pub leans_are : normal_in row sums above below i ≡ normal_of row i
+  pub leans_are : normal_in row.strip sums above below i row.y ≡ normal_of row i
   unfolding normal_at lean
   leans_are =
       let z = inside in

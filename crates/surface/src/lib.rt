@@ -2,6 +2,7 @@
 #![tactic(auto)]
 
 mod columns;
+mod gather;
 mod strip;
 
 ghost use Rattle.std.specs.Prelude.{◌≡◌, ◌+◌, ◌*◌, ◌≤◌, ◌<◌, length, get_or};
@@ -10,6 +11,7 @@ ghost use Rattle.surface.specs.Surface as Surface;
 ghost use Rattle.surface.specs.Inner.Leans.{factor_of, weighted_in};
 
 pub use columns::Columns;
+pub use gather::{normal_in, store_columns};
 pub use strip::{Row, Strip};
 
 const FACTOR_1_2: f32 = 1.0 / 2.0;

@@ -5,23 +5,33 @@ ghost use Rattle.surface.specs.Surface as Surface;
 
 // Columns of a sheet of these sides: `count` of them, from column `left` on.
 #[derive(Clone, Copy)]
-pub struct Strip<'a> {
-    pub src: &'a [u8],
+pub struct Strip {
     pub width: usize,
     pub height: usize,
     pub left: usize,
     pub count: usize,
     pub ghost sized: { Sized width height },
-    pub ghost filled: { length src.now ≡ 4 * width * height },
     pub ghost some: { 0 < count },
     pub ghost inside: { left + count ≤ width },
 }
 
-// One row of a strip.
+impl Strip {
+    // The strip's column i, as the sheet counts it.
+    pub fn column(&self, i: usize) -> u16
+        requires { i < self.now.count }
+        ensures { result ≡ self.now.left + i }
+    {
+        self.left as u16 + i as u16
+    }
+}
+
+// One row of a strip, with the sheet's bytes.
 #[derive(Clone, Copy)]
 pub struct Row<'a> {
-    pub strip: Strip<'a>,
+    pub src: &'a [u8],
+    pub strip: Strip,
     pub y: usize,
+    pub ghost filled: { length src.now ≡ 4 * strip.width * strip.height },
     pub ghost within: { y < strip.height },
 }
 
@@ -33,7 +43,7 @@ impl Row<'_> {
         requires { (x < self.now.strip.width) × (v < self.now.strip.height) }
         ensures { result ≡ alpha_in self.now x v }
     {
-        self.strip.src[4 * (v * self.strip.width + x) + 3]
+        self.src[4 * (v * self.strip.width + x) + 3]
     }
 
     // Alpha of the pixel above the one in column x; 0 where there is none.
@@ -81,13 +91,5 @@ impl Row<'_> {
         ensures { result ≡ Surface.ahead self.now.strip.height self.now.y }
     {
         (self.y + 1).min(self.strip.height - 1)
-    }
-
-    // The strip's column i, as the sheet counts it.
-    pub fn column(&self, i: usize) -> u16
-        requires { i < self.now.strip.count }
-        ensures { result ≡ self.now.strip.left + i }
-    {
-        self.strip.left as u16 + i as u16
     }
 }

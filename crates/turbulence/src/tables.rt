@@ -1,9 +1,9 @@
 // The tables of a seed: 514 selector entries, and four sets of 514 gradient pairs side by side.
 // What fills arrays is not inlined, so that its stack is given back when it returns and not held through all of `draw`.
-ghost use Rattle.std.specs.Prelude.{◌≡◌, ◌+◌, ◌<◌, get_or};
+ghost use Rattle.std.specs.Prelude.{◌≡◌, ◌+◌, ◌%◌, ◌<◌, get_or};
 ghost use Rattle.sheet.specs.Tabulate.{tabulate};
 ghost use Rattle.turbulence.specs.Random.{State, next};
-ghost use Rattle.turbulence.specs.Selector.{order, selector};
+ghost use Rattle.turbulence.specs.Selector.{exchange, order, selector};
 ghost use Rattle.turbulence.specs.Gradient.{component, pair_length, gradient_x, gradient_y, after_pairs, drawn_x, drawn_y, side_by_side};
 ghost use Rattle.turbulence.specs.Noise.{along};
 ghost use Rattle.turbulence.specs.Tables.{selector_of, gradients_x, gradients_y};
@@ -133,6 +133,15 @@ fn count_up() -> [u8; 256]
     array::from_fn(|k| k as u8)
 }
 
+// What stands in places i and j changes places.
+#[tactic(auto, using(std::proofs::lemmas::List::Edits::swap_is), unfolding(crate::specs::Selector::exchange))]
+fn exchange(places: &mut [u8; 256], i: usize, j: usize)
+    requires { (i < 256) × (j < 256) }
+    ensures { places.new ≡ exchange places.old i j }
+{
+    places.swap(i, j);
+}
+
 // Places 255 down to 1 of 0..=255 are each exchanged with the place that the next state draws.
 fn shuffled(state: u32) -> [u8; 256]
     requires { State state }
@@ -142,17 +151,24 @@ fn shuffled(state: u32) -> [u8; 256]
     let mut drawn = state;
     for i in (1..256).rev() {
         drawn = random(drawn);
-        places.swap(i, (drawn % 256) as usize);
+        exchange(&mut places, i, (drawn % 256) as usize);
     }
     places
 }
 
-// The shuffled places; those from 256 on repeat the first.
+// Entry n: those from 256 on repeat the first.
+fn entry(places: &[u8; 256], n: usize) -> u8
+    ensures { result ≡ get_or places.now (n % 256) 0 }
+{
+    places[n % 256]
+}
+
+// The shuffled places, repeated.
 #[inline(never)]
 fn lattice_selector(state: u32) -> [u8; 514]
     requires { State state }
     ensures { result ≡ selector state }
 {
     let places = shuffled(state);
-    array::from_fn(|n| places[n % 256])
+    array::from_fn(|n| entry(&places, n))
 }

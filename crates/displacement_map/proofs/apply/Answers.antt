@@ -23,11 +23,11 @@ invariant_of-picture c =
 
 pub of-columns-requires : goal.of-columns-requires
 of-columns-requires c =
-    let scales = accepted c.args.sx c.args.sy c.args.scale (sym c.test-2.ensures ∙ c.in_ok-test-2.was) in (scales.column, scales.map)
+    let scales = accepted c.args.sx c.args.sy c.args.scale (sym c.test-2.ensures ∙ c.in_ok-test-2.was) in record { range = (scales.column, scales.map); shifted = c.store_shifts.ensures }
 
 pub of-rows-requires : goal.of-rows-requires
 of-rows-requires c =
-    let scales = accepted c.args.sx c.args.sy c.args.scale (sym c.test-2.ensures ∙ c.in_ok-test-2.was) in (scales.row, scales.map)
+    let scales = accepted c.args.sx c.args.sy c.args.scale (sym c.test-2.ensures ∙ c.in_ok-test-2.was) in record { range = (scales.row, scales.map); shifted = c.store_shifts-2.ensures }
 
 pub displace-requires : goal.displace-requires
 displace-requires c =

@@ -5,7 +5,10 @@ use Rattle.sheet.specs.Inner.Strips.{Changed, Worked}
 use Rattle.surface.specs.declared.strip.Row.{Row}
 use Rattle.surface.specs.declared.strip.Strip.{Strip}
 use Rattle.surface.specs.Inner.Rows.{alpha_in, normal_in, normal_of}
+use Rattle.lighting.specs.declared.light.LightSource.TheVariants.{Point}
 use Rattle.lighting.specs.declared.light.Ray.{Ray}
+use Rattle.lighting.specs.declared.light.Rays.{Rays}
+use Rattle.lighting.specs.declared.light.Rays.TheVariants.{Same, To}
 use Rattle.lighting.specs.declared.pixel.Lighting.{Lighting}
 use Rattle.lighting.specs.declared.vector.Vector3.{Vector3}
 use Rattle.lighting.specs.Vectors as Vectors
@@ -25,9 +28,15 @@ pub record Measured (V : ℕ → Vector3 → Type 0) (old new : List Float) : Ty
 
 -- a row's columns are those of its sheet, and so are the lengths of their normal vectors
 pub record Sloped (scale : Float) (row : Row) (sums above below : List ℕ) (lengths : List Float) : Type 0 where
-  pub normals : (i : ℕ) → i < row.strip.count → normal_in row sums above below i ≡ normal_of row i
+  pub normals : (i : ℕ) → i < row.strip.count → normal_in row.strip sums above below i row.y ≡ normal_of row i
   pub same : length lengths ≡ row.strip.count
   pub each : (i : ℕ) → i < row.strip.count → get_or lengths i nan ≡ Vectors.length (normal_vector scale (normal_of row i))
+
+-- ---- rays
+-- a distant light's are one at every pixel; a point's go to its place
+abbrev pub RaysOf : Lighting → Rays → Type 0
+RaysOf l (Same v n) = (a x y : ℕ) → ray_by l.reflection v n ≡ ray_of l.reflection (light_vector l.light l.scale a x y)
+RaysOf l (To p) = l.light ≡ Point p.x p.y p.z
 
 -- ---- rays from a row's column i
 -- the vector to a point, not divided by its length yet
@@ -62,8 +71,8 @@ LitRow l factors row d d' = Changed 0 (λ j. lit_channel l.reflection l.color (g
 -- they became the result's
 abbrev pub RowDone : Lighting → Row → (d d' : List ℕ) → Type 0
 RowDone l row d d' =
-    Changed 0 (λ j. lit_at l row.strip.width row.strip.height row.strip.src.now (start_of row + j)) (start_of row) (4 * row.strip.count) d d'
+    Changed 0 (λ j. lit_at l row.strip.width row.strip.height row.src.now (start_of row + j)) (start_of row) (4 * row.strip.count) d d'
 
 -- the result stands in the columns before a strip, and in the strip's rows above y
-abbrev pub StripDone : Lighting → Strip → ℕ → List ℕ → Type 0
-StripDone l strip y d = Worked (lit_at l strip.width strip.height strip.src.now) strip.width strip.left strip.count y d
+abbrev pub StripDone : Lighting → Strip → List ℕ → ℕ → List ℕ → Type 0
+StripDone l strip s y d = Worked (lit_at l strip.width strip.height s) strip.width strip.left strip.count y d

@@ -1,7 +1,13 @@
--- The bytes that both have are src's, and the rest are dst's own.
+-- Each byte passed is src's; past the shorter length a byte is dst's own.
 use native.Mathlib.Omega.{arith}
-use Rattle.sheet.proofs.Tabulated.{copied_front}
+use Rattle.sheet.proofs.Filling.{fill_start, copy_store, copy_done}
 use Rattle.sheet.proofs.copy.Goals as goal
 
+pub loop-i-init : goal.loop-i-init
+loop-i-init c = fill_start _ _
+
+pub loop-i-preserved : goal.loop-i-preserved
+loop-i-preserved c = copy_store c.args.src.now c.args.dst.now c.loop-i.invariant (omega (arith, c.min-n.ensures))
+
 pub returns : goal.returns
-returns c = let f = copied_front c.args.src.now c.args.dst.now c.min-n.result (omega (arith, c.min-n.ensures)) in cc (f, c.copy_from_slice.ensures.after)
+returns c = copy_done c.args.src.now c.args.dst.now c.loop-i.invariant (omega (arith, c.min-n.ensures))

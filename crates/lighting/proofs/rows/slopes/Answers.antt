@@ -13,5 +13,5 @@ returns c =
     record {
       normals = c.fill.ensures;
       same = search rules;
-      each = λ i h. measured_as (λ j. normal_vector c.args.lighting.scale (normal_in c.args.row.now c.fill.new.self.sums c.fill.new.self.above c.fill.new.self.below j)) c.measure.ensures (λ j v p. search rules) i (search rules) ∙ ap (λ (n : Normal). Vectors.length (normal_vector c.args.lighting.scale n)) (c.fill.ensures i h);
+      each = λ i h. measured_as (λ j. normal_vector c.args.lighting.scale (normal_in c.args.row.now.strip c.fill.new.self.sums c.fill.new.self.above c.fill.new.self.below j c.args.row.now.y)) c.measure.ensures (λ j v p. search rules) i (search rules) ∙ ap (λ (n : Normal). Vectors.length (normal_vector c.args.lighting.scale n)) (c.fill.ensures i h);
     }

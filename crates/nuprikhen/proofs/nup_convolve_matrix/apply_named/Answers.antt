@@ -1,5 +1,5 @@
--- The tests come in the definition's order, and numbers that name a case change no answer.
-use mathlib.Core.Path.{refl}
+-- Numbers that name a case change no answer, and any others are refused after the tests.
+use mathlib.Core.Path.{refl, sym}
 use Rattle.sheet.proofs.Contracts.{filtered_refused, holds_refused}
 use Rattle.convolve_matrix.specs.ConvolveMatrix.{answer}
 use Rattle.nuprikhen.specs.Convolving.{convolve_answer}
@@ -16,17 +16,17 @@ returns-in_err-test c =
 pub returns-in_err-test-2 : goal.returns-in_err-test-2
 unfolding convolve_answer answer
 returns-in_err-test-2 c =
-    let e = second_stands _ c.test.ensures c.in_ok-test.was c.test-2.ensures c.in_err-test-2.was in
+    let e = second_stands _ c.test.ensures c.in_ok-test.was c.test-in-Err.ensures c.in_err-test-2.was in
     record { filtered = filtered_refused e c.from_residual-in_err-test-2.ensures.1 refl; cleared = holds_refused e refl }
 
-pub returns-in_err-named : goal.returns-in_err-named
+pub returns-in-Err : goal.returns-in-Err
 unfolding convolve_answer answer
-returns-in_err-named c =
-    let e = third_stands c.test.ensures c.in_ok-test.was c.test-2.ensures c.in_ok-test-2.was c.in_err-named.was in
-    record { filtered = filtered_refused e c.from_residual-in_err-named.ensures.1 refl; cleared = holds_refused e refl }
+returns-in-Err c =
+    let e = third_stands c.test.ensures c.in_ok-test.was c.test-in-Err.ensures c.in_ok-test-2.was c.in-Err.is in
+    record { filtered = record { answered = sym e; held = holds_refused e refl }; cleared = holds_refused e refl }
 
 pub returns : goal.returns
 unfolding convolve_answer
 returns c =
-    let e = then_named _ _ c.in_ok-named.was in
+    let e = then_named _ _ c.in_default.is in
     record { filtered = filtered_as refl refl e refl c.apply.ensures.filtered; cleared = holds_as refl refl e refl c.apply.ensures.cleared }

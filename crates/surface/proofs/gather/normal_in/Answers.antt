@@ -1,8 +1,8 @@
 -- The definition, whose parts the calls give.
 use Rattle.surface.specs.Surface.{lean_factor}
-use Rattle.surface.proofs.columns.Columns.normal_in.Goals as goal
+use Rattle.surface.proofs.gather.normal_in.Goals as goal
 
 pub returns : goal.returns
 unfolding lean_factor
-returns g c =
+returns c =
     rw (c.factor.ensures, c.factor-2.ensures, c.at_edge-side.ensures, c.at_edge-end.ensures, c.column.ensures, c.turned.ensures, c.turned-2.ensures, c.weighted_in-lower.ensures.is, c.weighted_in-higher.ensures.is)
