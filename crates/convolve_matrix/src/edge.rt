@@ -59,6 +59,13 @@ pub struct Side {
     pub ghost near: { target < kernel_limit },
 }
 
+// a - b, or 0, and n at the most. By `saturating_sub` it would be worked out anew wherever the result is used.
+fn less_within(a: usize, b: usize, n: usize) -> usize
+    ensures { result ≡ less_within a b n }
+{
+    if a < b { 0 } else { (a - b).min(n) }
+}
+
 impl Side {
     // The nearest place.
     fn nearest(self, at: usize) -> usize
@@ -105,8 +112,8 @@ impl Side {
         ensures start { result.start ≡ less_within self.target at n }
         ensures end { result.end ≡ less_within (self.places + self.target) at n }
     {
-        let from = self.target.saturating_sub(at).min(n);
-        let to = (self.places + self.target).saturating_sub(at).min(n);
+        let from = less_within(self.target, at, n);
+        let to = less_within(self.places + self.target, at, n);
         from..to
     }
 

@@ -10,7 +10,8 @@ use sheet::STRIP;
 
 // The length of `dest` is asked four times: a struct around the `&mut` would be taken apart and made again at each call.
 impl Strip<'_> {
-    // Row y of `dest` becomes that of the sums.
+    // Row y of `dest` becomes that of the sums. Never inlined: that leaves the loops over the sums their registers.
+    #[inline(never)]
     fn finish_row(&self, y: usize, sums: &[f32], dest: &mut [u8])
         requires sums { 4 * self.now.n ≤ length sums.now }
         requires row { y < self.now.whole.height }
